@@ -1,0 +1,10 @@
+pub mod Cases
+pub mod Chars
+pub mod Front
+pub mod Scan
+pub mod Ends
+pub mod Prefix
+pub mod Rows
+pub mod Scalars
+pub mod Trimmed
+pub mod Unicode

@@ -1,0 +1,62 @@
+-- Laws of `startsWith` and `followed` at a position: what the loops that compare bytes need of them.
+use Prim.Native.Nat.{ℕ, zero, suc, _+_, _-_, _≤_, _<_}
+use mathlib.Core.Path.{_≡_, refl, sym}
+use mathlib.Core.List.{List, [], _∷_}
+use mathlib.Core.Bool.{Bool, true, false, _&&_, and-false}
+use native.Mathlib.Numerals.{add-one, sub-one}
+use native.Mathlib.Omega.{arith}
+use lib.Dec.{eqb, leb}
+use lib.ListN.{length, getD, drop, drop-of-length-le}
+use lib.Seq.{drop-cons}
+use borrow.Author.Tests.{eq-eqb, ne-eqb, le-leb, lt-leb}
+use Rattle.text.specs.Bytes.{startsWith}
+use Rattle.text.specs.Utf8.{within, followed}
+
+-- a text that is shorter than p does not begin with it
+pub short : (p s : List ℕ) → length s < length p → startsWith p s ≡ false
+unfolding startsWith
+short [] s h = absurd (omega arith)
+short (a ∷ p) [] h = refl
+short (a ∷ p) (b ∷ s) h = rw (short p s (omega arith), and-false)
+
+module _ (p s : List ℕ) (i : ℕ) where
+  pub same : i < length s → i < length p → getD s i 0 ≡ getD p i 0 → startsWith (drop i p) (drop i s) ≡ startsWith (drop (i + 1) p) (drop (i + 1) s)
+  unfolding startsWith
+  same h k e = rw (drop-cons s i 0 h, drop-cons p i 0 k, e, eq-eqb (getD p i 0) _ refl, add-one)
+
+  pub differs : i < length s → i < length p → (getD s i 0 ≡ getD p i 0 → ⊥) → startsWith (drop i p) (drop i s) ≡ false
+  unfolding startsWith
+  differs h k e = rw (drop-cons s i 0 h, drop-cons p i 0 k, ne-eqb (getD p i 0) (getD s i 0) (λ q. e (sym q)))
+
+  pub all : length p ≤ i → startsWith (drop i p) (drop i s) ≡ true
+  unfolding startsWith
+  all h = rw (drop-of-length-le p h)
+
+-- one byte more of those that follow a lead byte
+pub next : (s : List ℕ) (i n low high : ℕ) → 0 < n → i < length s
+    → followed n low high (drop i s) ≡ within low high (getD s i 0) && followed (n - 1) 0x80 0xBF (drop (i + 1) s)
+unfolding followed
+next s i zero low high h k = absurd (omega arith)
+next s i (suc n) low high h k = rw (drop-cons s i 0 k, add-one, sub-one)
+
+pub missing : (s : List ℕ) (i n low high : ℕ) → 0 < n → length s ≤ i → followed n low high (drop i s) ≡ false
+unfolding followed
+missing s i zero low high h k = absurd (omega arith)
+missing s i (suc n) low high h k = rw (drop-of-length-le s k)
+
+pub enough : (s : List ℕ) (n low high : ℕ) → n ≤ 0 → followed n low high s ≡ true
+unfolding followed
+enough s zero low high h = refl
+enough s (suc n) low high h = absurd (omega arith)
+
+pub below : (low high b : ℕ) → b < low → within low high b ≡ false
+unfolding within
+below low high b h = rw (lt-leb low b h)
+
+pub above : (low high b : ℕ) → high < b → within low high b ≡ false
+unfolding within
+above low high b h = rw (lt-leb b high h, and-false)
+
+pub inside : (low high b : ℕ) → low ≤ b → b ≤ high → within low high b ≡ true
+unfolding within
+inside low high b l h = rw (le-leb low b l, le-leb b high h)

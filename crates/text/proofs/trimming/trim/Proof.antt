@@ -1,0 +1,23 @@
+use Rattle.text.specs.Trimming.{trimmed}
+use borrow.Author.Tests.{eq-eqb, ne-eqb}
+use mathlib.Core.Path.{sym, _∙_}
+use borrow.Author.Needs.{needs}
+use Rattle.text.proofs.trimming.trim.Statement.{statement}
+use Rattle.text.proofs.trimming.trim.Tie as tie
+
+kept-end-requires : tie.Need-kept-end-requires
+kept-end-requires c κs = search needs
+
+returns : tie.Need-returns
+unfolding trimmed
+returns c = rw (eq-eqb _ _ (sym (c .before .kept-end .ensures) ∙ c .if1 .taken))
+
+leading-requires : tie.Need-leading-requires
+leading-requires c κs = search needs
+
+returns-2 : tie.Need-returns-2
+unfolding trimmed
+returns-2 c = rw (ne-eqb _ _ (λ q. c .before .if1 .left (c .before .before .kept-end .ensures ∙ q)), c .before .before .kept-end .ensures, c .leading .ensures)
+
+pub trim-spec : {M : Type 1} → statement M
+trim-spec = tie.close (tie.spec kept-end-requires returns leading-requires returns-2)

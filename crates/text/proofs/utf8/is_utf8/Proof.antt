@@ -1,0 +1,71 @@
+use lib.ListN.{drop-of-length-le}
+use Rattle.text.proofs.Chars.{at-none, at-char, at-le}
+use Rattle.text.proofs.Front.{from}
+use Rattle.text.specs.Utf8.{utf8, owes}
+use lib.ListN.{length, drop}
+use native.Mathlib.Omega.{arith}
+use mathlib.Core.Path.{_≡_, refl, sym, _∙_}
+use Prim.Native.Nat.{_-_, _≤_}
+use borrow.Author.Needs.{needs}
+use Rattle.text.proofs.utf8.is_utf8.Statement.{statement}
+use Rattle.text.proofs.utf8.is_utf8.Tie as tie
+
+abbrev Inv-loop : tie.InvT-loop
+Inv-loop s i₀ i = (i ≤ length s) × (utf8 s ≡ utf8 (drop i s))
+
+abbrev μ-loop : tie.MeasureT-loop
+μ-loop s i₀ i = length s - i
+
+loop-holds : tie.Need-loop-holds Inv-loop μ-loop
+loop-holds c = (search needs, refl)
+
+sub-char-len : tie.Need-sub-char-len Inv-loop μ-loop
+sub-char-len c = search needs
+
+part-char-len-start : tie.Need-part-char-len-start Inv-loop μ-loop
+part-char-len-start c = search needs
+
+part-char-len-end : tie.Need-part-char-len-end Inv-loop μ-loop
+part-char-len-end c = search needs
+
+char-len-requires : tie.Need-char-len-requires Inv-loop μ-loop
+char-len-requires c κs = search needs
+
+returns : tie.Need-returns Inv-loop μ-loop
+returns c =
+    let h = c .before .before .before in
+    sym (h .before .loop .inv .1 ∙ at-none _ _ _ (sym (rw from at (c .before .char-len .ensures))) (h .loop-test .taken) (c .if1 .taken))
+
+add-i : tie.Need-add-i Inv-loop μ-loop
+add-i c = omega (arith, at-le _ _ _ (sym (rw from at (c .before .char-len .ensures))) (c .before .before .before .before .loop .inv .0))
+
+loop-less : tie.Need-loop-less Inv-loop μ-loop
+loop-less c = omega (arith, at-le _ _ _ (sym (rw from at (c .before .char-len .ensures))) (c .before .before .before .before .loop .inv .0))
+
+loop-again : tie.Need-loop-again Inv-loop μ-loop
+loop-again c =
+    let h = c .before .before .before in (
+      at-le _ _ _ (sym (rw from at (c .before .char-len .ensures))) (h .before .loop .inv .0),
+      h .before .loop .inv .1 ∙ at-char _ _ _ (sym (rw from at (c .before .char-len .ensures))) (h .loop-test .taken) (c .if1 .left),
+    )
+
+returns-2 : tie.Need-returns-2 Inv-loop μ-loop
+unfolding utf8 owes
+returns-2 c = sym (c .before .loop .inv .1 ∙ rw (drop-of-length-le _ (c .loop-test .left)))
+
+pub is-utf8-spec : {M : Type 1} → statement M
+is-utf8-spec =
+    tie.close
+    (tie.spec
+    Inv-loop
+    μ-loop
+    loop-holds
+    sub-char-len
+    part-char-len-start
+    part-char-len-end
+    char-len-requires
+    returns
+    add-i
+    loop-less
+    loop-again
+    returns-2)

@@ -1,0 +1,44 @@
+-- Document 01, 'Bytes and UTF-8': blanks, line breaks, the line's end. A text is the list of its bytes.
+use Prim.Native.Nat.{ℕ, zero, suc}
+use mathlib.Core.List.{List, [], _∷_}
+use mathlib.Core.Bool.{Bool, true, false, cond, not, _||_, _&&_}
+use lib.Dec.{eqb}
+use Rattle.text.specs.declared.bytes.First.{First}
+use Rattle.text.specs.declared.bytes.First.the-variants.{Byte, Nothing}
+
+-- a blank: a space or a tab
+unfoldable pub isBlank : ℕ → Bool
+isBlank b = eqb b 32 || eqb b 9
+
+-- CR or LF
+unfoldable pub isBreak : ℕ → Bool
+isBreak b = eqb b 13 || eqb b 10
+
+abbrev pub notBreak : ℕ → Bool
+notBreak b = not (isBreak b)
+
+-- the first byte, where there is one
+unfoldable pub firstOf : List ℕ → First
+firstOf [] = Nothing
+firstOf (b ∷ r) = Byte b
+
+-- the size of the line break that the text begins with: CR LF is one of two bytes; 0 where it begins with none
+unfoldable pub breakSize : List ℕ → ℕ
+breakSize [] = 0
+breakSize (b ∷ []) = cond (isBreak b) 1 0
+breakSize (b ∷ c ∷ r) = cond (isBreak b) (cond (eqb b 13 && eqb c 10) 2 1) 0
+
+-- how many bytes at the front pass the test
+unfoldable pub countWhile : (ℕ → Bool) → List ℕ → ℕ
+countWhile p [] = 0
+countWhile p (b ∷ r) = let n = suc (countWhile p r) in cond (p b) n 0
+
+-- how many bytes stand before the first CR or LF
+abbrev pub lineEnd : List ℕ → ℕ
+lineEnd s = countWhile notBreak s
+
+-- whether the text begins with the bytes of p
+unfoldable pub startsWith : List ℕ → List ℕ → Bool
+startsWith [] s = true
+startsWith (a ∷ p) [] = false
+startsWith (a ∷ p) (b ∷ s) = let t = startsWith p s in eqb a b && t

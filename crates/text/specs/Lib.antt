@@ -1,0 +1,4 @@
+pub mod Bytes
+pub mod Trimming
+pub mod Utf8
+pub mod Scalar

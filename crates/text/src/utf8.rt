@@ -1,0 +1,84 @@
+use crate::bytes::First;
+use crate::bytes::first_of;
+ghost use mathlib.Core.Path.{_≡_};
+ghost use Rattle.text.specs.Utf8.{leadOf, followed, charLen, utf8};
+
+// What a lead byte says (Table 3-7): how many bytes follow, and the range of the second byte.
+pub enum Lead {
+    Follow(usize, u8, u8),
+    Bad,
+}
+
+pub fn lead_of(b: u8) -> Lead
+    ensures { λ r. ⌜ r ≡ leadOf b ⌝ }
+{
+    match b {
+        0x00..=0x7F => Lead::Follow(0, 0x80, 0xBF),
+        0xC2..=0xDF => Lead::Follow(1, 0x80, 0xBF),
+        0xE0 => Lead::Follow(2, 0xA0, 0xBF),
+        0xE1..=0xEC => Lead::Follow(2, 0x80, 0xBF),
+        0xED => Lead::Follow(2, 0x80, 0x9F),
+        0xEE..=0xEF => Lead::Follow(2, 0x80, 0xBF),
+        0xF0 => Lead::Follow(3, 0x90, 0xBF),
+        0xF1..=0xF3 => Lead::Follow(3, 0x80, 0xBF),
+        0xF4 => Lead::Follow(3, 0x80, 0x8F),
+        _ => Lead::Bad,
+    }
+}
+
+// Whether s begins with `more` bytes of which the first is from low to high and the others from 80 to BF.
+fn follows(s: &[u8], more: usize, low: u8, high: u8) -> bool
+    ensures { λ r. ⌜ r ≡ followed more low high (now (s .entry)) ⌝ }
+{
+    let mut least = low;
+    let mut most = high;
+    let mut left = more;
+    let mut i = 0;
+    while 0 < left {
+        if s.len() <= i {
+            return false;
+        }
+        if s[i] < least {
+            return false;
+        }
+        if most < s[i] {
+            return false;
+        }
+        least = 0x80;
+        most = 0xBF;
+        left -= 1;
+        i += 1;
+    }
+    true
+}
+
+// How many bytes the character has that s begins with; 0 where it begins with no well-formed one.
+pub fn char_len(s: &[u8]) -> usize
+    ensures { λ r. ⌜ r ≡ charLen (now (s .entry)) ⌝ }
+{
+    let First::Byte(b) = first_of(s) else {
+        return 0;
+    };
+    let Lead::Follow(more, low, high) = lead_of(b) else {
+        return 0;
+    };
+    if follows(&s[1..], more, low, high) {
+        more + 1
+    } else {
+        0
+    }
+}
+
+pub fn is_utf8(s: &[u8]) -> bool
+    ensures { λ r. ⌜ r ≡ utf8 (now (s .entry)) ⌝ }
+{
+    let mut i = 0;
+    while i < s.len() {
+        let n = char_len(&s[i..]);
+        if n == 0 {
+            return false;
+        }
+        i += n;
+    }
+    true
+}
