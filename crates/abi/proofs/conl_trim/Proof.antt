@@ -1,3 +1,4 @@
+-- `conl_trim` stores the trimmed part, or nothing where the slice has no room for it (proofs/Writes).
 use Rattle.abi.proofs.Writes.{kept, stored}
 use mathlib.Core.Path.{_≡_, ap, sym, _∙_}
 use borrow.Author.Tests.{lt-leb, le-leb}

@@ -1,3 +1,4 @@
+-- `which` is its definition.
 use Rattle.abi.specs.Lent.{whichOf}
 use borrow.Author.Needs.{needs}
 use Rattle.abi.proofs.which.Statement.{statement}

@@ -1,3 +1,4 @@
+-- `room` has the length that lending it as a slice asks for.
 use Prim.Native.Nat.{ℕ}
 use lib.ListN.{length-replicate}
 use mathlib.Core.Path.{sym}

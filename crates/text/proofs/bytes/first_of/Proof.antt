@@ -1,3 +1,4 @@
+-- `first_of` answers the first byte: the test of the length decides which clause of `firstOf` holds.
 use Rattle.text.proofs.Front.{first, no-first}
 use mathlib.Core.Path.{sym}
 use borrow.Author.Needs.{needs}

@@ -1,3 +1,4 @@
+-- `is_newline` is its definition: the tests of the code are the tests of `isBreak`.
 use borrow.Author.Tests.{eq-eqb, ne-eqb}
 use Rattle.text.specs.Bytes.{isBreak}
 use borrow.Author.Needs.{needs}

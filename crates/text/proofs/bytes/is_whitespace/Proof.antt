@@ -1,3 +1,4 @@
+-- `is_whitespace` is its definition: the tests of the code are the tests of `isBlank`.
 use borrow.Author.Tests.{eq-eqb, ne-eqb}
 use Rattle.text.specs.Bytes.{isBlank}
 use borrow.Author.Needs.{needs}

@@ -1,3 +1,5 @@
+-- `line_end` counts the bytes before the first CR or LF. Invariant: what is passed and what `lineEnd` counts from there on
+-- make up the whole count. Measure: the bytes left.
 use Rattle.text.specs.Bytes.{notBreak, lineEnd}
 use mathlib.Core.Path.{ap}
 use mathlib.Core.Bool.{not}

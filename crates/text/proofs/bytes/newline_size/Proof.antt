@@ -1,3 +1,4 @@
+-- `newline_size` is the size of the break in front: each return is one law of `breakSize` (proofs/Front).
 use Rattle.text.specs.Bytes.{breakSize}
 use Rattle.text.proofs.Front.{empty, no-break, lf, last, cr}
 use borrow.Author.Tests.{eq-eqb, ne-eqb, not-true, not-false}

@@ -1,3 +1,5 @@
+-- `starts_with` compares byte by byte. Invariant: what is left of the text begins with what is left of p exactly where the
+-- text begins with p. Measure: the bytes of p left.
 use Rattle.text.proofs.Prefix.{short, same, differs, all}
 use Rattle.text.specs.Bytes.{startsWith}
 use lib.ListN.{length, drop}

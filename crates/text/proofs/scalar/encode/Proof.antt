@@ -1,3 +1,4 @@
+-- `encode` is Table 3-6 row by row: each return's tests pick that row. The casts fit because a scalar value is at most 10FFFF.
 use Rattle.text.proofs.Scalars.{scalar-le}
 use native.Mathlib.Omega.{arith}
 use mathlib.Core.Path.{sym, _∙_}

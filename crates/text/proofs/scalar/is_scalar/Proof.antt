@@ -1,3 +1,4 @@
+-- `is_scalar` is its definition: the tests of the code are the tests of `isScalar`.
 use Rattle.text.specs.Scalar.{isScalar}
 use borrow.Author.Tests.{lt-ltb, le-ltb}
 use borrow.Author.Needs.{needs}

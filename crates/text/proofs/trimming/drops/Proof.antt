@@ -1,3 +1,4 @@
+-- `drops` is its definition: the arm that is taken picks the clause of `dropped`.
 use Rattle.text.specs.Trimming.{dropped}
 use mathlib.Core.Path.{sym, _∙_}
 use borrow.Author.Needs.{needs}

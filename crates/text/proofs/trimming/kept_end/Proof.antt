@@ -1,3 +1,5 @@
+-- `kept_end` goes back over the dropped bytes at the end. Invariant: they change nothing in what `keptEnd` counts. Measure:
+-- the end.
 use Rattle.text.proofs.Ends.{whole, less, stop, none}
 use Rattle.text.specs.Trimming.{dropped, keptEnd}
 use borrow.Author.Tests.{not-true, not-false}

@@ -1,3 +1,5 @@
+-- `leading` counts the dropped bytes in front. Invariant: what is passed and what is counted from there on make up the whole
+-- count. Measure: the bytes left.
 use Rattle.text.specs.Trimming.{dropped}
 use Rattle.text.specs.Bytes.{countWhile}
 use borrow.Author.Tests.{not-true, not-false}

@@ -1,3 +1,4 @@
+-- `trim` is its definition, over what `kept_end` and `leading` ensure.
 use Rattle.text.specs.Trimming.{trimmed}
 use borrow.Author.Tests.{eq-eqb, ne-eqb}
 use mathlib.Core.Path.{sym, _∙_}

@@ -1,3 +1,5 @@
+-- `char_len` is the length of the character in front: the first byte, what it leads, and the bytes that follow it, as in
+-- `charLen` (proofs/Front).
 use Rattle.text.proofs.Chars.{followed-le}
 use Prim.Native.Nat.{_≤_}
 use native.Mathlib.Numerals.{add-one}

@@ -1,3 +1,5 @@
+-- `follows` checks the bytes after a lead byte. Invariant: what is left to follow from here on is followed exactly where all
+-- of it is. Measure: the bytes left to follow.
 use Rattle.text.proofs.Prefix.{next, missing, enough, below, above, inside}
 use Rattle.text.specs.Utf8.{followed}
 use lib.ListN.{length, drop}

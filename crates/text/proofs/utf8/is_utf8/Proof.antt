@@ -1,3 +1,5 @@
+-- `is_utf8` passes one character a turn. Invariant: the text is well-formed exactly where the rest is (proofs/Chars). Measure:
+-- the bytes left, which fall because a character has at least one.
 use lib.ListN.{drop-of-length-le}
 use Rattle.text.proofs.Chars.{at-none, at-char, at-le}
 use Rattle.text.proofs.Front.{from}

@@ -1,3 +1,4 @@
+-- `lead_of` is Table 3-7: each arm is one row (proofs/Rows).
 use Rattle.text.specs.Utf8.{within}
 use Rattle.text.proofs.Rows.{ascii, low, two, three, three-high, four, high}
 use Rattle.text.specs.Utf8.{leadOf}

@@ -1,3 +1,4 @@
+-- `number_at` is safe: a number of at most nine digits fits. Measure: the bytes left.
 use lib.ListN.{length}
 use Prim.Native.Nat.{_-_, _≤_}
 use borrow.Author.Needs.{needs}

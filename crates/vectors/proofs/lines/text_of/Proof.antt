@@ -1,3 +1,4 @@
+-- `text_of` is safe: two digits make a byte, and at most 256 of them are stored. Measure: the bytes left.
 use mathlib.Core.Path.{_≡_, _∙_}
 use lib.ListN.{length, length-set}
 use Prim.Native.Nat.{_-_, _≤_}

@@ -1,3 +1,4 @@
+-- `all` is safe: each line ends within the input. Measure: the bytes left, one more for the end of the last line.
 use Prim.Native.Nat.{ℕ}
 use mathlib.Core.Path.{_≡_}
 use mathlib.Core.List.{List}

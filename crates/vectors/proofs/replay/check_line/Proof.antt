@@ -1,3 +1,4 @@
+-- `check_line` is safe: the text of a line lies within its array.
 use lib.Seq.{length-take-le}
 use mathlib.Core.Path.{sym}
 use borrow.Author.Needs.{needs}

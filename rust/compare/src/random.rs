@@ -1,0 +1,23 @@
+//! A generator of its own, so that every run sees the same texts.
+
+/// Marsaglia's xorshift generator with a state of 64 bits.
+pub struct Random(u64);
+
+impl Random {
+    pub fn new() -> Self {
+        Random(0x9E37_79B9_7F4A_7C15)
+    }
+
+    /// A number below `bound`.
+    pub fn below(&mut self, bound: usize) -> usize {
+        self.0 ^= self.0 << 13;
+        self.0 ^= self.0 >> 7;
+        self.0 ^= self.0 << 17;
+        (self.0 % bound as u64) as usize
+    }
+
+    /// One of `items`.
+    pub fn pick<'a, T>(&mut self, items: &'a [T]) -> &'a T {
+        &items[self.below(items.len())]
+    }
+}
