@@ -3,7 +3,7 @@
 use Prim.Native.Nat.{ℕ, suc, _-_, _≤_, _<_}
 use mathlib.Core.Path.{_≡_, refl}
 use mathlib.Core.List.{List, [], _∷_}
-use mathlib.Core.Bool.{true, false, cond}
+use mathlib.Core.Bool.{true, false, cond, _&&_}
 use native.Mathlib.Omega.{arith}
 use lib.Dec.{eqb}
 use lib.ListN.{length, getD, drop, take, length-drop}
@@ -13,6 +13,7 @@ use Rattle.text.specs.Bytes.{isBreak, firstOf, breakSize}
 use Rattle.text.specs.Utf8.{leadOf, followed, charLen}
 use Rattle.text.specs.declared.bytes.First.the-variants.{Byte, Nothing}
 use Rattle.text.specs.declared.utf8.Lead.the-variants.{Follow, Bad}
+use Rattle.text.proofs.Cases.{on-cond}
 
 pub first : (s : List ℕ) → 0 < length s → firstOf s ≡ Byte (getD s 0 0)
 unfolding firstOf
@@ -69,6 +70,21 @@ unfolding firstOf breakSize
 cr [] b e f q h = absurd (omega arith)
 cr (a ∷ []) b e f q h = absurd (omega arith)
 cr (a ∷ c ∷ r) b e f q h = let p : a ≡ b = cc in rw (p, f, q)
+
+-- the break lies within the text, and has a byte
+pub break-le : (s : List ℕ) → breakSize s ≤ length s
+unfolding breakSize
+break-le [] = omega arith
+break-le (b ∷ []) = on-cond (λ n. n ≤ 1) (isBreak b) (λ e. omega arith) (λ e. omega arith)
+break-le (b ∷ c ∷ r) =
+    on-cond (λ n. n ≤ suc (suc (length r))) (isBreak b)
+    (λ e. on-cond (λ n. n ≤ suc (suc (length r))) (eqb b 13 && eqb c 10) (λ t. omega arith) (λ t. omega arith))
+    (λ e. omega arith)
+
+pub break-pos : (b : ℕ) (r : List ℕ) → isBreak b ≡ true → 0 < breakSize (b ∷ r)
+unfolding breakSize
+break-pos b [] e = rw e (omega arith)
+break-pos b (c ∷ r) e = rw e (on-cond (λ n. 0 < n) (eqb b 13 && eqb c 10) (λ t. omega arith) (λ t. omega arith))
 
 -- The character that a text begins with, b being its first byte.
 pub no-char : (s : List ℕ) → firstOf s ≡ Nothing → charLen s ≡ 0

@@ -89,7 +89,7 @@ alike-ascii b s l a (suc n) low high h = rw (below low high b (omega arith))
 -- Trimming by a test that only bytes below 80 pass
 module _ (p : ℕ → Bool) (ascii : (b : ℕ) → p b ≡ true → b < 0x80) where
   -- dropped in front
-  utf8-start : (s : List ℕ) → utf8 (drop (countWhile p s) s) ≡ utf8 s
+  pub utf8-start : (s : List ℕ) → utf8 (drop (countWhile p s) s) ≡ utf8 s
   unfolding countWhile
   utf8-start [] = refl
   utf8-start (b ∷ r) = by-bool (p b) (λ e. rw e (utf8-start r ∙ sym (utf8-ascii b r (ascii b e)))) (λ e. rw e)
@@ -129,7 +129,7 @@ unfolding dropped isBlank isBreak
 keeps-high Blanks b h = simp (ne-eqb b 32 (omega arith), ne-eqb b 9 (omega arith))
 keeps-high BlanksAndBreaks b h = simp (ne-eqb b 32 (omega arith), ne-eqb b 9 (omega arith), ne-eqb b 13 (omega arith), ne-eqb b 10 (omega arith))
 
-dropped-ascii : (which : Dropped) (b : ℕ) → dropped which b ≡ true → b < 0x80
+pub dropped-ascii : (which : Dropped) (b : ℕ) → dropped which b ≡ true → b < 0x80
 dropped-ascii which b e =
     by-bool (ltb b 0x80) (ltb-true b 0x80) (λ t. absurd (false≢true (sym (keeps-high which b (ltb-false b 0x80 t)) ∙ e)))
 

@@ -1,0 +1,6 @@
+pub mod Texts
+pub mod Sound
+pub mod Weight
+pub mod Answers
+pub mod Readings
+pub mod Claimed

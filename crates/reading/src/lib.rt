@@ -1,0 +1,1 @@
+// Theorems about the tokenizer's lists: see specs/Claims.

@@ -1,0 +1,5 @@
+pub mod Token
+pub mod Scans
+pub mod Plan
+pub mod Step
+pub mod Lists

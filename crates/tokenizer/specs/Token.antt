@@ -1,0 +1,87 @@
+-- Tokens in document 01's numbers: kinds 1 to 10, each with its line and its parts.
+use Prim.Native.Nat.{ℕ, _+_}
+use mathlib.Core.List.{List, [], _∷_, _++_}
+use lib.ListN.{length, take, replicate}
+use Prim.Native.Nat.{min}
+use Rattle.text.specs.declared.bytes.Part.{Part}
+use Rattle.tokenizer.specs.declared.token.Token.{Token}
+use Rattle.tokenizer.specs.declared.token.Token.the-variants.{
+  Newline,
+  Comment,
+  Indent,
+  Outdent,
+  ListItem,
+  MapKey,
+  Value,
+  MultilineHint,
+  MultilineValue,
+  NoValue,
+}
+use Rattle.tokenizer.specs.declared.token.Name.{Name}
+use Rattle.tokenizer.specs.declared.state.Answer.{Answer}
+use Rattle.tokenizer.specs.declared.state.Answer.the-variants.{End, Refused}
+use Rattle.tokenizer.specs.declared.state.Answer.the-variants.{Token as Gives}
+
+-- number, line, start and end of the text, start and end of the indentation; 0 where there is none
+pub record Values : Type 0 where
+  pub number : ℕ
+  pub line : ℕ
+  pub start : ℕ
+  pub end : ℕ
+  pub from : ℕ
+  pub to : ℕ
+
+abbrev pub bare : ℕ → ℕ → Values
+bare n l = record { number = n; line = l; start = 0; end = 0; from = 0; to = 0 }
+
+abbrev pub worded : ℕ → ℕ → Part → Values
+worded n l p = record { number = n; line = l; start = p .start; end = p .end; from = 0; to = 0 }
+
+-- a token's kind and values
+unfoldable pub tokenValues : Token → Values
+tokenValues (Newline l) = bare 1 l
+tokenValues (Comment l p) = worded 2 l p
+tokenValues (Indent l) = bare 3 l
+tokenValues (Outdent l) = bare 4 l
+tokenValues (ListItem l) = bare 5 l
+tokenValues (MapKey l p) = worded 6 l p
+tokenValues (Value l p) = worded 7 l p
+tokenValues (MultilineHint l p) = worded 8 l p
+tokenValues (MultilineValue l i p) = record { number = 9; line = l; start = p .start; end = p .end; from = i .start; to = i .end }
+tokenValues (NoValue l) = bare 10 l
+
+-- an answer's: 0 for End, 256 and the number for a refusal
+unfoldable pub valuesOf : Answer → Values
+valuesOf End = bare 0 0
+valuesOf (Gives t) = tokenValues t
+valuesOf (Refused n l) = bare (256 + n) l
+
+-- the line on which a token starts
+unfoldable pub lineOf : Token → ℕ
+lineOf (Newline l) = l
+lineOf (Comment l p) = l
+lineOf (Indent l) = l
+lineOf (Outdent l) = l
+lineOf (ListItem l) = l
+lineOf (MapKey l p) = l
+lineOf (Value l p) = l
+lineOf (MultilineHint l p) = l
+lineOf (MultilineValue l i p) = l
+lineOf (NoValue l) = l
+
+-- what a token is called, in ASCII
+unfoldable pub nameOf : Token → List ℕ
+nameOf (Newline l) = 110 ∷ 101 ∷ 119 ∷ 108 ∷ 105 ∷ 110 ∷ 101 ∷ []
+nameOf (Comment l p) = 99 ∷ 111 ∷ 109 ∷ 109 ∷ 101 ∷ 110 ∷ 116 ∷ []
+nameOf (Indent l) = 105 ∷ 110 ∷ 100 ∷ 101 ∷ 110 ∷ 116 ∷ []
+nameOf (Outdent l) = 111 ∷ 117 ∷ 116 ∷ 100 ∷ 101 ∷ 110 ∷ 116 ∷ []
+nameOf (ListItem l) = 108 ∷ 105 ∷ 115 ∷ 116 ∷ 32 ∷ 105 ∷ 116 ∷ 101 ∷ 109 ∷ []
+nameOf (MapKey l p) = 109 ∷ 97 ∷ 112 ∷ 32 ∷ 107 ∷ 101 ∷ 121 ∷ []
+nameOf (Value l p) = 118 ∷ 97 ∷ 108 ∷ 117 ∷ 101 ∷ []
+nameOf (MultilineHint l p) = 109 ∷ 117 ∷ 108 ∷ 116 ∷ 105 ∷ 108 ∷ 105 ∷ 110 ∷ 101 ∷ 32 ∷ 104 ∷ 105 ∷ 110 ∷ 116 ∷ []
+nameOf (MultilineValue l i p) = 109 ∷ 117 ∷ 108 ∷ 116 ∷ 105 ∷ 108 ∷ 105 ∷ 110 ∷ 101 ∷ 32 ∷ 118 ∷ 97 ∷ 108 ∷ 117 ∷ 101 ∷ []
+nameOf (NoValue l) = 110 ∷ 111 ∷ 32 ∷ 118 ∷ 97 ∷ 108 ∷ 117 ∷ 101 ∷ []
+
+-- the first 16 bytes with zeros after them, and how many they are
+unfoldable pub padded : List ℕ → Name
+padded s = record { bytes = take 16 (s ++ replicate 16 0); len = min 16 (length s) }
