@@ -198,16 +198,16 @@ fn consume_multiline_hint(m: Marks, k: usize, r: &[u8]) -> Plan
         return kept(Says::Refused(2), 0, m);
     }
     let n = plain_len(r, b';');
-    let pass = k + 3 + n;
+    let passed = k + 3 + n;
     let Text::Good(p) = checked(Dropped::Blanks, &r[..n]) else {
-        return kept(Says::Refused(1), pass, m);
+        return kept(Says::Refused(1), passed, m);
     };
     let marks = Marks {
         indent: m.indent,
         value: m.value,
         multiline: true,
     };
-    kept(Says::MultilineHint(shifted(k + 3, p)), pass, marks)
+    kept(Says::MultilineHint(shifted(k + 3, p)), passed, marks)
 }
 
 // The multiline value of that indentation that rest begins with.

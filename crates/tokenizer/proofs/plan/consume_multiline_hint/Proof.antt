@@ -26,11 +26,11 @@ returns c = rw (sym (c .before .before .starts-with .ensures) ∙ c .before .if1
 plain-len-requires : tie.Need-plain-len-requires
 plain-len-requires c κs = search needs
 
-add-pass : tie.Need-add-pass
-add-pass c = search needs
+add-passed : tie.Need-add-passed
+add-passed c = search needs
 
-add-pass-2 : tie.Need-add-pass-2
-add-pass-2 c = omega (arith, plain-le 59 (c .before .before .before .before .before .args .r .now))
+add-passed-2 : tie.Need-add-passed-2
+add-passed-2 c = omega (arith, plain-le 59 (c .before .before .before .before .before .args .r .now))
 
 slice-aggregate-checked : tie.Need-slice-aggregate-checked
 slice-aggregate-checked c = sym (length-take-le _ _ (omega (arith, plain-le 59 (c .before .before .before .before .before .before .args .r .now))))
@@ -86,8 +86,8 @@ consume-multiline-hint-spec =
     kept-requires
     returns
     plain-len-requires
-    add-pass
-    add-pass-2
+    add-passed
+    add-passed-2
     slice-aggregate-checked
     checked-requires
     enum-known-p

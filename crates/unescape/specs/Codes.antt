@@ -1,0 +1,46 @@
+-- Document 01, 'Unescaping': the codes behind a backslash.
+use Prim.Native.Nat.{ℕ, _+_, _-_, _*_}
+use mathlib.Core.List.{List, [], _∷_}
+use mathlib.Core.Bool.{Bool, true, false, cond, _&&_, _||_}
+use lib.Dec.{eqb, leb}
+use lib.ListN.{length}
+use Rattle.text.specs.Utf8.{within}
+
+-- the value of a hexadecimal digit of either case, or 16
+unfoldable pub digitOf : ℕ → ℕ
+digitOf b =
+    cond (within 48 57 b) (b - 48)
+    (cond (within 65 70 b) (b - 55)
+    (cond (within 97 102 b) (b - 87) 16))
+
+-- a number that names no scalar value
+abbrev pub noScalar : ℕ
+noScalar = 0x110000
+
+-- the number that hexadecimal digits make, n being what stands before them; it wraps at no length
+unfoldable pub digitsFrom : ℕ → List ℕ → ℕ
+digitsFrom n [] = n
+digitsFrom n (b ∷ r) = let m = digitsFrom (n * 16 + digitOf b) r in cond (leb 16 (digitOf b)) noScalar m
+
+-- one digit at least
+unfoldable pub digits : List ℕ → ℕ
+digits [] = noScalar
+digits (b ∷ r) = digitsFrom 0 (b ∷ r)
+
+-- an optional `+` in front
+unfoldable pub afterPlus : List ℕ → ℕ
+afterPlus [] = noScalar
+afterPlus (b ∷ r) = let m = digits r in cond (eqb b 43) m (digits (b ∷ r))
+
+-- the number that the bytes between braces name: 1 to 8 of them
+unfoldable pub codeOf : List ℕ → ℕ
+codeOf h = let n = afterPlus h in cond (leb (length h) 8) n noScalar
+
+-- the byte that a backslash and this byte stand for: `"`, `\`, `n`, `r`, `t`; 0 for any other
+unfoldable pub simpleOf : ℕ → ℕ
+simpleOf b =
+    cond (eqb b 34) 34
+    (cond (eqb b 92) 92
+    (cond (eqb b 110) 10
+    (cond (eqb b 114) 13
+    (cond (eqb b 116) 9 0))))
