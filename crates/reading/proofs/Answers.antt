@@ -1,4 +1,4 @@
--- What each answer of a sound state's step vouches for: End, that only blanks are left; a token, that its parts are texts of
+-- What each answer of a sound state's step vouches for: End, that only blanks are left and no section is open; a token, that its parts are texts of
 -- the document; a refusal, that it is one of the rules' own, 1, 2 or 3.
 use Prim.Native.Nat.{ℕ, _+_, _≤_}
 use mathlib.Core.Path.{_≡_, sym, ap, _∙_}
@@ -31,7 +31,7 @@ use Rattle.reading.proofs.Texts.{text-trimmed, text-take, text-drop, in
 use Rattle.reading.proofs.Sound.{restOf, indentAt, planOf, answerAt, StepCases, step-cases, Sound, indent-sound}
 
 abbrev pub Vouched : List ℕ → State → Answer → Type 0
-Vouched d s End = blanks (restOf d s) ≡ length (restOf d s)
+Vouched d s End = (blanks (restOf d s) ≡ length (restOf d s)) × (s .depth ≡ 0)
 Vouched d s (Token t) = TokenFits d t
 Vouched d s (Refused n l) = (1 ≤ n) × (n ≤ 3)
 
@@ -58,7 +58,7 @@ module _ (d : List ℕ) (s : State) (o : Sound d s) where
   vouches : StepCases d s (λ p. Vouched d s (answerAt d s (p .says)))
   unfolding planNewline planComment planItem planKey planPlain planMultiline planOutdent linesOf
   vouches = record {
-    ends = λ q n. blanks-left (s .held) (restOf d s) q;
+    ends = λ q n. (blanks-left (s .held) (restOf d s) q, omega arith);
     closes = λ q n. tt;
     line = λ b r q.
         let k = sizeOf (s .held) (restOf d s) in

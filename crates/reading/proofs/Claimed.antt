@@ -26,7 +26,7 @@ vouched-fits d s (Token t) v e = v
 vouched-fits d s (Refused n l) v e = v
 
 module _ (d : List ℕ) (l : length d ≤ 16777216) where
-  sound-kept : (s : State) → Sound d s → Sound d (stepOf d s .state)
+  pub sound-kept : (s : State) → Sound d s → Sound d (stepOf d s .state)
   unfolding stepRule stepWith
   sound-kept s o = rw (step-sound d s l o) (after-sound d s (planOf d s) o (step-bounded d s))
 
@@ -34,7 +34,7 @@ module _ (d : List ℕ) (l : length d ≤ 16777216) where
   unfolding stepRule stepWith
   sound-falls s o e = rw (step-sound d s l o) (plan-turns d s o .falls (rw (step-sound d s l o) at e))
 
-  sound-vouches : (s : State) → Sound d s → Vouched d s (stepOf d s .answer)
+  pub sound-vouches : (s : State) → Sound d s → Vouched d s (stepOf d s .answer)
   unfolding stepRule stepWith
   sound-vouches s o = rw (step-sound d s l o) (plan-vouches d s o)
 
@@ -52,11 +52,13 @@ module _ (d : List ℕ) (l : length d ≤ 16777216) where
 pub ends : Ends
 ends d l =
     let r = tokens-read d l .1 in
+    let last = subst (Vouched d _) (reads-end r) (sound-vouches d l _ (last-kept (sound-kept d l) r (fresh-sound d))) in
     record {
       last = tokens-read d l .0;
       reads = r;
       bound = omega (arith, length-le (sound-kept d l) (weight d) (sound-falls d l) r (fresh-sound d), fresh-weight d l);
-      only-blanks = subst (Vouched d _) (reads-end r) (sound-vouches d l _ (last-kept (sound-kept d l) r (fresh-sound d)));
+      only-blanks = last .0;
+      closed = last .1;
     }
 
 pub lists : Lists

@@ -109,7 +109,7 @@ unfolding fitOpen
 open-fit d is x zero = refl
 open-fit d is x (suc n) = rw (part-fit d (getD is n noPart) (x n .within), open-fit d is x n)
 
-sound-fit : (d : List ℕ) (s : State) → Sound d s → fit (length d) s ≡ true
+pub sound-fit : (d : List ℕ) (s : State) → Sound d s → fit (length d) s ≡ true
 unfolding fit
 sound-fit d s o =
     rw (

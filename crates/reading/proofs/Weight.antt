@@ -49,14 +49,14 @@ held-size Nothing n r = omega arith
 held-size (At p) n r = omega arith
 
 -- no empty indentation is deeper
-deeper-pos : (s t : List ℕ) → relationOf s t ≡ Deeper → 1 ≤ length t
+pub deeper-pos : (s t : List ℕ) → relationOf s t ≡ Deeper → 1 ≤ length t
 unfolding relationOf
 deeper-pos s (b ∷ t) e = omega arith
 deeper-pos [] [] e = let z : _≡_ {A = ℕ} 0 1 = cc in absurd (omega arith)
 deeper-pos (a ∷ s) [] e = let z : _≡_ {A = ℕ} 0 1 = cc in absurd (omega arith)
 
 -- where no section is open, no indentation is less deep
-other-pos : (d : List ℕ) (is : List Part) (n : ℕ) (t : List ℕ) → relationOf (bytesOf d (innerOf is n)) t ≡ Other → 1 ≤ n
+pub other-pos : (d : List ℕ) (is : List Part) (n : ℕ) (t : List ℕ) → relationOf (bytesOf d (innerOf is n)) t ≡ Other → 1 ≤ n
 unfolding relationOf
 other-pos d is (suc n) t e = omega arith
 other-pos d is zero [] e = let z : _≡_ {A = ℕ} 0 1 = cc in absurd (omega arith)

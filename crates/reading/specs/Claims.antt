@@ -26,13 +26,14 @@ use Rattle.tokenizer.specs.declared.state.Answer.{Answer}
 use Rattle.tokenizer.specs.declared.state.Answer.the-variants as answer
 use Rattle.tokenizer.specs.declared.state.State.{State}
 
--- Claim 1, Ends. The reading of a document of n bytes within the limit: at most 2n answers, then End, and only blanks remain
--- from the place
+-- Claim 1, Ends. The reading of a document of n bytes within the limit: at most 2n answers, then End; only blanks remain from the
+-- place, and no section is open
 pub record Ended (d : List ℕ) : Type 0 where
   pub last : State
   pub reads : Reads d fresh (tokens d) last
   pub bound : length (tokens d) ≤ 2 * length d
   pub only-blanks : blanks (drop (last .place) d) ≡ length (drop (last .place) d)
+  pub closed : last .depth ≡ 0
 
 abbrev pub Ends : Type 0
 Ends = (d : List ℕ) → length d ≤ 16777216 → Ended d

@@ -8,3 +8,4 @@ pub mod Rows
 pub mod Scalars
 pub mod Trimmed
 pub mod Unicode
+pub mod Joins

@@ -52,7 +52,7 @@ trimmed-le p s =
 
 -- What a lead byte owes is at least 80
 
-data Owed : Lead → Type 0 where
+pub data Owed : Lead → Type 0 where
   nothing : Owed Bad
   follow : {n low high : ℕ} → leb 0x80 low ≡ true → Owed (Follow n low high)
 
@@ -60,7 +60,7 @@ either : (t : Bool) {x y : Lead} → Owed x → Owed y → Owed (cond t x y)
 either true a b = a
 either false a b = b
 
-owed : (b : ℕ) → Owed (leadOf b)
+pub owed : (b : ℕ) → Owed (leadOf b)
 unfolding leadOf
 owed b = search (either, follow, nothing) depth 12
 

@@ -53,7 +53,7 @@ abbrev pub part : ℕ → ℕ → Part
 part a b = record { start = a; end = b }
 
 -- what computing a reading unfolds
-rules : List ℕ → List Answer
+unfoldable pub rules : List ℕ → List Answer
 unfolding
     isBlank
     isBreak

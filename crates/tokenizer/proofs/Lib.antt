@@ -8,3 +8,4 @@ pub mod Fitness
 pub mod Bounds
 pub mod Steps
 pub mod Examples
+pub mod Valued

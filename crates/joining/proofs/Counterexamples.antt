@@ -1,0 +1,65 @@
+-- Each condition of the theorem is needed: for a pair that meets all but one, the two lists, computed from the rules, differ.
+use Prim.Native.Nat.{ℕ}
+use mathlib.Core.Path.{_≡_, refl}
+use mathlib.Core.List.{List, [], _∷_, _++_}
+use mathlib.Core.Bool.{true}
+use native.Mathlib.Omega.{arith}
+use lib.ListN.{length}
+use Rattle.tokenizer.specs.Scans.{breaks}
+use Rattle.tokenizer.specs.Lists.{tokens}
+use Rattle.tokenizer.specs.declared.token.Token.the-variants.{Newline, Comment, Indent, Outdent, MapKey}
+use Rattle.tokenizer.specs.declared.state.Answer.{Answer}
+use Rattle.tokenizer.specs.declared.state.Answer.the-variants.{Token}
+use Rattle.tokenizer.proofs.Examples.{part, rules}
+use Rattle.joining.specs.Raising.{raisePart, raiseToken, raise, raised}
+use Rattle.joining.specs.Tokens.{Closed, topLevel}
+
+-- the list for P then S is l; the one for P, then the one for S raised, is m; and these are not the same
+abbrev pub Apart : List ℕ → List ℕ → List Answer → List Answer → Type 0
+Apart p s l m = (tokens (p ++ s) ≡ l) × (tokens p ++ raised (breaks p) (length p) (tokens s) ≡ m) × (l ≡ m → ⊥)
+
+-- P does not end in a break: `a` then `a` is one key
+pub no-break : (topLevel (97 ∷ []) ≡ true)
+    × Apart (97 ∷ []) (97 ∷ []) (Token (MapKey 1 (part 0 2)) ∷ []) (Token (MapKey 1 (part 0 1)) ∷ Token (MapKey 1 (part 1 2)) ∷ [])
+unfolding topLevel rules raise raiseToken raisePart
+no-break = (refl, (refl, refl, λ e. let z : _≡_ {A = ℕ} 0 1 = cc in omega arith))
+
+-- ` a` LF, the P of the next three
+abbrev pub section : List ℕ
+section = 32 ∷ 97 ∷ 10 ∷ []
+
+-- S begins with `;`: a comment closes no section
+pub comment : Closed section
+    × Apart section (59 ∷ [])
+    (Token (Indent 1) ∷ Token (MapKey 1 (part 1 2)) ∷ Token (Newline 1) ∷ Token (Comment 2 (part 4 4)) ∷ Token (Outdent 2) ∷ [])
+    (Token (Indent 1) ∷ Token (MapKey 1 (part 1 2)) ∷ Token (Newline 1) ∷ Token (Outdent 2) ∷ Token (Comment 2 (part 4 4)) ∷ [])
+unfolding rules raise raiseToken raisePart
+comment = (refl, (refl, refl, λ e. let z : _≡_ {A = ℕ} 0 1 = cc in omega arith))
+
+-- S begins with a blank: ` a` goes on in the open section
+pub blank : Closed section
+    × Apart section (32 ∷ 97 ∷ [])
+    (Token (Indent 1) ∷ Token (MapKey 1 (part 1 2)) ∷ Token (Newline 1) ∷ Token (MapKey 2 (part 4 5)) ∷ Token (Outdent 2) ∷ [])
+    (Token (Indent 1)
+    ∷ Token (MapKey 1 (part 1 2))
+    ∷ Token (Newline 1)
+    ∷ Token (Outdent 2)
+    ∷ Token (Indent 2)
+    ∷ Token (MapKey 2 (part 4 5))
+    ∷ Token (Outdent 2)
+    ∷ [])
+unfolding rules raise raiseToken raisePart
+blank = (refl, (refl, refl, λ e. let z : _≡_ {A = ℕ} 0 1 = cc in omega arith))
+
+-- S begins with LF: an empty line closes no section
+pub line-feed : Closed section
+    × Apart section (10 ∷ [])
+    (Token (Indent 1) ∷ Token (MapKey 1 (part 1 2)) ∷ Token (Newline 1) ∷ Token (Newline 2) ∷ Token (Outdent 3) ∷ [])
+    (Token (Indent 1) ∷ Token (MapKey 1 (part 1 2)) ∷ Token (Newline 1) ∷ Token (Outdent 2) ∷ Token (Newline 2) ∷ [])
+unfolding rules raise raiseToken raisePart
+line-feed = (refl, (refl, refl, λ e. let z : _≡_ {A = ℕ} 0 1 = cc in omega arith))
+
+-- S begins with LF: CR then LF is one break
+pub cr-lf : Closed (13 ∷ []) × Apart (13 ∷ []) (10 ∷ []) (Token (Newline 1) ∷ []) (Token (Newline 1) ∷ Token (Newline 2) ∷ [])
+unfolding rules raise raiseToken raisePart
+cr-lf = (refl, (refl, refl, λ e. let z : _≡_ {A = ℕ} 0 1 = cc in omega arith))

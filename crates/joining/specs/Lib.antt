@@ -1,0 +1,4 @@
+pub mod Raising
+pub mod Tokens
+pub mod Alike
+pub mod Joined

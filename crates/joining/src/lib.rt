@@ -1,0 +1,1 @@
+// Theorems about layouts joined at a top-level line: see specs/.

@@ -1,0 +1,108 @@
+-- Document 01, 'Parser': the state, and the step over it. 12, then 15, then End once refused, then the rules.
+use Prim.Native.Nat.{ℕ, zero, suc, _+_, _-_, _≤_, _<_}
+use mathlib.Core.List.{List}
+use mathlib.Core.Bool.{Bool, true, false, cond}
+use lib.Dec.{leb, ltb}
+use lib.ListN.{length, getD, set, replicate}
+use Rattle.tokenizer.specs.Step.{fit}
+use Rattle.tokenizer.specs.Step.{stepOf as tokenStep}
+use Rattle.tokenizer.specs.Step.{fresh as freshTokenizer}
+use Rattle.tokenizer.specs.declared.state.Answer.{Answer as Came}
+use Rattle.tokenizer.specs.declared.state.Answer.the-variants as came
+use Rattle.tokenizer.specs.declared.state.State.{State as Tokenizer}
+use Rattle.parser.specs.Ruling.{rulingOf}
+use Rattle.parser.specs.declared.ruling.Answer.the-variants as answer
+use Rattle.parser.specs.declared.ruling.Sort.the-variants.{Unset}
+use Rattle.parser.specs.declared.ruling.Awaited.the-variants as awaited
+use Rattle.parser.specs.declared.ruling.Kept.{Kept}
+use Rattle.parser.specs.declared.ruling.Kept.the-variants as kept
+use Rattle.parser.specs.declared.ruling.Innermost.{Innermost}
+use Rattle.parser.specs.declared.ruling.Innermost.the-variants.{Missing, Of}
+use Rattle.parser.specs.declared.ruling.Change.{Change}
+use Rattle.parser.specs.declared.ruling.Change.the-variants.{Keep, Fix, Open, Close}
+use Rattle.parser.specs.declared.ruling.Verdict.{Verdict}
+use Rattle.parser.specs.declared.ruling.Ruling.{Ruling}
+use Rattle.parser.specs.declared.ruling.Ruling.the-variants.{Says, End, Unfit}
+use Rattle.parser.specs.declared.state.Section.{Section}
+use Rattle.parser.specs.declared.state.State.{State}
+use Rattle.parser.specs.declared.state.Step.{Step}
+
+-- a section of no sort yet
+abbrev pub noSort : Section
+noSort = record { sort = Unset }
+
+-- the innermost of the first count sections; an empty record has none, nor has one that counts over 65
+unfoldable pub innermostOf : List Section → ℕ → Innermost
+innermostOf l zero = Missing
+innermostOf l (suc n) = cond (ltb n 65) (Of (getD l n noSort .sort)) Missing
+
+-- no room for one more
+abbrev pub fullOf : ℕ → Bool
+fullOf n = leb 65 n
+
+unfoldable pub sectionsAfter : Change → List Section → ℕ → List Section
+sectionsAfter Keep l n = l
+sectionsAfter (Fix s) l n = set l (n - 1) (record { sort = s })
+sectionsAfter Open l n = set l n noSort
+sectionsAfter Close l n = l
+
+unfoldable pub countAfter : Change → ℕ → ℕ
+countAfter Keep n = n
+countAfter (Fix s) n = n
+countAfter Open n = n + 1
+countAfter Close n = n - 1
+
+-- the record has what a change needs: a section to fix or to close, room for one to open
+abbrev pub ChangeFits : Change → ℕ → Type 0
+ChangeFits Keep n = Unit {0}
+ChangeFits (Fix s) n = (0 < n) × (n ≤ 65)
+ChangeFits Open n = n < 65
+ChangeFits Close n = 0 < n
+
+-- the state after a verdict, t being the tokenizer's
+unfoldable pub afterVerdict : State → Tokenizer → Verdict → State
+afterVerdict s t v = record {
+  tokenizer = t;
+  kept = v .kept;
+  awaited = v .awaited;
+  refused = v .refused;
+  sections = sectionsAfter (v .change) (s .sections) (s .count);
+  count = countAfter (v .change) (s .count);
+}
+
+-- a refusal that gives the very state back
+abbrev pub refusal : ℕ → State → Step
+refusal n s = record { answer = answer.Refused n 0; state = s }
+
+abbrev pub onRuling : Ruling → State → Tokenizer → Step
+onRuling (Says v) s t = record { answer = v .answer; state = afterVerdict s t v }
+onRuling End s t = record { answer = answer.End; state = s }
+onRuling Unfit s t = refusal 15 s
+
+-- what is made of what came, t being the tokenizer's state after it
+unfoldable pub stepWith : State → Came → Tokenizer → Step
+stepWith s c t = onRuling (rulingOf (s .awaited) (innermostOf (s .sections) (s .count)) (fullOf (s .count)) c) s t
+
+-- what was kept comes again, else the tokenizer's next answer
+unfoldable pub stepKept : List ℕ → State → Kept → Step
+stepKept d s kept.Nothing = stepWith s (tokenStep d (s .tokenizer) .answer) (tokenStep d (s .tokenizer) .state)
+stepKept d s kept.End = stepWith s came.End (s .tokenizer)
+stepKept d s (kept.Token t) = stepWith s (came.Token t) (s .tokenizer)
+
+-- the step
+unfoldable pub stepOf : List ℕ → State → Step
+stepOf d s =
+    cond (ltb 16777216 (length d)) (refusal 12 s)
+    (cond (fit (length d) (s .tokenizer)) (cond (s .refused) (record { answer = answer.End; state = s }) (stepKept d s (s .kept)))
+    (refusal 15 s))
+
+-- the fresh state: the top level is a section of no sort yet
+unfoldable pub fresh : State
+fresh = record {
+  tokenizer = freshTokenizer;
+  kept = kept.Nothing;
+  awaited = awaited.Nothing;
+  refused = false;
+  sections = replicate 65 noSort;
+  count = 1;
+}

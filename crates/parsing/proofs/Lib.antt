@@ -1,0 +1,5 @@
+pub mod Tokens
+pub mod Rulings
+pub mod Sections
+pub mod Steps
+pub mod Claimed

@@ -1,0 +1,1 @@
+// Theorems about the parser's lists: see specs/Claims.
