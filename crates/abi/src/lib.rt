@@ -5,6 +5,8 @@ ghost use lib.Dec.{leb};
 ghost use lib.ListN.{length};
 ghost use Rattle.text.specs.Utf8.{utf8};
 ghost use Rattle.text.specs.Trimming.{dropped, trimmed};
+ghost use Rattle.batch.specs.Words.{freshIn};
+ghost use Rattle.batch.specs.Rows.{batchOf};
 ghost use Rattle.abi.specs.Lent.{whichOf, partIn};
 
 // Whether s is well-formed UTF-8.
@@ -39,4 +41,24 @@ pub extern "C" fn conl_trim(s: &[u8], breaks: bool, part: &mut [usize]) -> bool
     part[0] = p.start;
     part[1] = p.end;
     true
+}
+
+// Writes the fresh state at the front of the words: true; or false, with state unchanged, where there are fewer than 137.
+#[no_mangle]
+pub extern "C" fn conl_fresh(state: &mut [usize]) -> bool
+    ensures { λ r. ⌜ r ≡ leb 137 (length (now (state .entry))) ⌝ }
+    ensures { λ r. ⌜ now (state .exit) ≡ freshIn (now (state .entry)) ⌝ }
+{
+    batch::fresh(state)
+}
+
+// Takes as many answers as rows has room for, a row of seven words each, up to End, and leaves the state after them: how
+// many rows; or 2^63 and a refusal's number, 12 or 15, with nothing written.
+#[no_mangle]
+pub extern "C" fn conl_tokenize(doc: &[u8], state: &mut [usize], rows: &mut [usize]) -> usize
+    ensures { λ r. ⌜ r ≡ batchOf (now (doc .entry)) (now (state .entry)) (now (rows .entry)) .result ⌝ }
+    ensures { λ r. ⌜ now (state .exit) ≡ batchOf (now (doc .entry)) (now (state .entry)) (now (rows .entry)) .words ⌝ }
+    ensures { λ r. ⌜ now (rows .exit) ≡ batchOf (now (doc .entry)) (now (state .entry)) (now (rows .entry)) .rows ⌝ }
+{
+    batch::tokenize(doc, state, rows)
 }

@@ -9,3 +9,5 @@ pub mod Bounds
 pub mod Steps
 pub mod Examples
 pub mod Valued
+pub mod Kept
+pub mod Numbers

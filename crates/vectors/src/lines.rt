@@ -3,7 +3,7 @@
 ghost use Prim.Native.Nat.{_≤_};
 ghost use lib.ListN.{length};
 
-// The text of a line, and where its numbers begin: 0 where the line can't be read.
+// The text of a line, and where its numbers begin, or the line ends: 0 where the line can't be read.
 pub struct Text {
     pub bytes: [u8; 256],
     pub len: usize,
@@ -77,8 +77,8 @@ pub fn text_of(line: &[u8]) -> Text
     }
     Text {
         bytes,
-        len: 0,
-        after: 0,
+        len,
+        after: at,
     }
 }
 

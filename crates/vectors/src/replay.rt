@@ -9,6 +9,7 @@ use text::Dropped;
 pub struct Tally {
     pub utf8: usize,
     pub trimming: usize,
+    pub tokens: usize,
     pub unreadable: usize,
     pub differences: usize,
     pub first: usize,
@@ -18,6 +19,7 @@ pub struct Tally {
 enum Checked {
     Utf8(bool),
     Trimming(bool),
+    Tokens(bool),
     Unreadable,
 }
 
@@ -38,6 +40,53 @@ fn trimming_agrees(line: &[u8], s: &[u8], after: usize, which: Dropped) -> bool 
     is_last(line, end) && start.value == p.start && end.value == p.end
 }
 
+// Where the six numbers from `at` on end, if they are those of the row that begins at `from`; else 0.
+fn row_after(line: &[u8], at: usize, rows: &[usize], from: usize) -> usize {
+    let mut end = at;
+    let mut j = 0;
+    while j < 6 {
+        let n = number_at(line, end);
+        if rows.len() <= from {
+            return 0;
+        }
+        if rows.len() - from <= j {
+            return 0;
+        }
+        if n.value != rows[from + j] {
+            return 0;
+        }
+        end = n.after;
+        j += 1;
+    }
+    end
+}
+
+// Whether the numbers from `after` to the line's end are those of n rows.
+fn rows_agree(line: &[u8], after: usize, rows: &[usize], n: usize) -> bool {
+    let mut at = after;
+    let mut i = 0;
+    while i < n {
+        if 1000 <= i {
+            return false;
+        }
+        at = row_after(line, at, rows, 7 * i);
+        if at == 0 {
+            return false;
+        }
+        i += 1;
+    }
+    at == line.len()
+}
+
+// A text of 256 bytes has at most 512 answers: one batch has room for them all, and one row more.
+fn tokens_agree(line: &[u8], s: &[u8], after: usize) -> bool {
+    let mut words = [0usize; 137];
+    let mut rows = [0usize; 3591];
+    batch::fresh(&mut words);
+    let n = batch::tokenize(s, &mut words, &mut rows);
+    rows_agree(line, after, &rows, n)
+}
+
 fn check_line(line: &[u8]) -> Checked {
     if line.len() < 3 {
         return Checked::Unreadable;
@@ -54,6 +103,7 @@ fn check_line(line: &[u8]) -> Checked {
         b'u' => Checked::Utf8(utf8_agrees(line, s, after)),
         b'b' => Checked::Trimming(trimming_agrees(line, s, after, Dropped::Blanks)),
         b's' => Checked::Trimming(trimming_agrees(line, s, after, Dropped::BlanksAndBreaks)),
+        b't' => Checked::Tokens(tokens_agree(line, s, after)),
         _ => Checked::Unreadable,
     }
 }
@@ -83,6 +133,10 @@ fn counted(mut t: Tally, line: usize, c: Checked) -> Tally {
             t.trimming = up(t.trimming);
             marked(t, line, agrees)
         }
+        Checked::Tokens(agrees) => {
+            t.tokens = up(t.tokens);
+            marked(t, line, agrees)
+        }
         Checked::Unreadable => {
             t.unreadable = up(t.unreadable);
             marked(t, line, false)
@@ -94,6 +148,7 @@ pub fn all(s: &[u8]) -> Tally {
     let mut t = Tally {
         utf8: 0,
         trimming: 0,
+        tokens: 0,
         unreadable: 0,
         differences: 0,
         first: 0,

@@ -3,6 +3,12 @@
 use crate::texts::hex;
 use std::fmt::{self, Debug, Display, Formatter};
 
+/// How many bytes are put to the sides in search of a shorter text.
+const MOST_EFFORT: usize = 1 << 28;
+
+/// How many characters of a text or an answer are shown.
+const SHOWN: usize = 1_000;
+
 pub struct Tally {
     name: &'static str,
     pub texts: u64,
@@ -18,6 +24,8 @@ struct Difference {
     text: Vec<u8>,
     rust: String,
     port: String,
+    /// How the port was asked.
+    way: &'static str,
 }
 
 impl Tally {
@@ -41,14 +49,25 @@ impl Tally {
         rust: impl Fn(&[u8]) -> Answer,
         port: impl Fn(&[u8]) -> Answer,
     ) -> Answer {
+        self.compare_each(text, rust, &[("port", port)])
+    }
+
+    /// Puts `text` to Rust, and to the port in each of the named `ways`. The answer is what Rust
+    /// says.
+    pub fn compare_each<Answer: PartialEq + Debug>(
+        &mut self,
+        text: &[u8],
+        rust: impl Fn(&[u8]) -> Answer,
+        ways: &[(&'static str, impl Fn(&[u8]) -> Answer)],
+    ) -> Answer {
         self.texts += 1;
         self.bytes += text.len() as u64;
         let answer = rust(text);
-        if answer != port(text) {
+        if let Some((way, port)) = ways.iter().find(|(_, port)| answer != port(text)) {
             self.differences += 1;
             let smaller = |kept: &Difference| text.len() < kept.text.len();
             if self.smallest.as_ref().is_none_or(smaller) {
-                self.smallest = Some(Difference::shrunk(text, rust, port));
+                self.smallest = Some(Difference::shrunk(text, rust, port, way));
             }
         }
         answer
@@ -72,11 +91,13 @@ impl Difference {
         text: &[u8],
         rust: impl Fn(&[u8]) -> Answer,
         port: impl Fn(&[u8]) -> Answer,
+        way: &'static str,
     ) -> Self {
         let text = shrink(text.to_vec(), |text| rust(text) != port(text));
         Difference {
             rust: format!("{:?}", rust(&text)),
             port: format!("{:?}", port(&text)),
+            way,
             text,
         }
     }
@@ -84,10 +105,12 @@ impl Difference {
 
 /// Drops ever shorter runs of bytes from `text` where the sides still differ without them.
 fn shrink(mut text: Vec<u8>, differ: impl Fn(&[u8]) -> bool) -> Vec<u8> {
+    let mut effort = 0;
     let mut run = text.len();
     while run > 0 {
         let mut start = 0;
-        while start + run <= text.len() {
+        while start + run <= text.len() && effort < MOST_EFFORT {
+            effort += text.len();
             let rest = [&text[..start], &text[start + run..]].concat();
             if differ(&rest) {
                 text = rest;
@@ -110,12 +133,32 @@ impl Display for Tally {
                 _ => writeln!(f, "  {outcome}: {count}")?,
             }
         }
-        if let Some(Difference { text, rust, port }) = &self.smallest {
-            let escaped = text.escape_ascii();
-            writeln!(f, "  smallest difference: {} \"{escaped}\"", hex(text))?;
-            writeln!(f, "    Rust: {rust}")?;
-            writeln!(f, "    port: {port}")?;
+        if let Some(smallest) = &self.smallest {
+            write!(f, "{smallest}")?;
         }
         Ok(())
     }
+}
+
+impl Display for Difference {
+    fn fmt(&self, f: &mut Formatter) -> fmt::Result {
+        let len = self.text.len();
+        let bytes = shown(&hex(&self.text), 0);
+        let escaped = shown(&self.text.escape_ascii().to_string(), 0);
+        writeln!(
+            f,
+            "  smallest difference, {len} bytes: {bytes} \"{escaped}\""
+        )?;
+
+        let both = self.rust.chars().zip(self.port.chars());
+        let alike = both.take_while(|(rust, port)| rust == port).count();
+        let from = alike.saturating_sub(SHOWN / 2);
+        writeln!(f, "    Rust: {}", shown(&self.rust, from))?;
+        writeln!(f, "    {}: {}", self.way, shown(&self.port, from))
+    }
+}
+
+/// Some of `told` from a place on.
+fn shown(told: &str, from: usize) -> String {
+    told.chars().skip(from).take(SHOWN).collect()
 }

@@ -93,10 +93,10 @@ impl Mixed {
     fn piece(&mut self) -> Vec<u8> {
         if self.random.below(16) == 0 {
             let len = 1 + self.random.below(4);
-            (0..len).map(|_| *self.random.pick(&RANGE_ENDS)).collect()
+            (0..len).map(|_| self.random.pick(&RANGE_ENDS)).collect()
         } else {
-            let of_one_length = self.random.below(4);
-            let character = self.random.pick(&self.characters[of_one_length]);
+            let of_one_length = &self.characters[self.random.below(4)];
+            let character = &of_one_length[self.random.below(of_one_length.len())];
             character.repeat(1 + self.random.below(8))
         }
     }

@@ -1,16 +1,24 @@
-//! The sample of the standard library's answers that crates/vectors/stdin stores, for the program
-//! `vectors` to replay where there is no Rust. The port has no say in it.
+//! The sample of Rust's answers that crates/vectors/stdin stores, for the program `vectors` to replay
+//! where there is no Rust: answers of the standard library, then of the original. The port has no
+//! say in it.
 
+use crate::documents::any;
+use crate::random::Random;
 use crate::texts::{hex, Mixed};
+use crate::tokens::tokens;
 use crate::trimming::trimmed;
 use crate::utf8::is_valid;
-use conl::port::Trim;
+use conl::port::{Row, Trim};
 use std::collections::BTreeSet;
 
 /// How many texts are kept for each question, and how many bytes a random one may have.
 const VALIDITY_TEXTS: usize = 600;
 const TRIMMING_TEXTS: usize = 300;
 const RANDOM_BYTES: usize = 64;
+
+/// How many documents are kept, and how many bytes one may have.
+const DOCUMENTS: usize = 2_400;
+const DOCUMENT_BYTES: usize = 256;
 
 /// Unicode's Table 3-7: the ranges of the bytes of well-formed characters.
 const TABLE_3_7: [&[(u8, u8)]; 9] = [
@@ -50,6 +58,29 @@ const MIDDLES: [&str; 8] = [
     "\u{3000}\u{85}",
 ];
 
+/// Documents that turn on one rule each.
+const EXAMPLES: [&str; 19] = [
+    "",
+    "a\n  = \"x\"\n",
+    "a = \"\"\"\"b",
+    "a = \"\"\"\n;x",
+    " a",
+    "k\n a = \"\"\"\n  x",
+    "=\"\"\"\n a",
+    "a = \"\"\"hint ; x\r\n  x\r\n   y\n \n  z\n\nb",
+    "a = \"\"\"\n\tb\r\r\n \tc\r\td",
+    "a = \"\"\"\nb",
+    "a = \"\"\" \n = \"\"\"\n  x\n y",
+    "a\n\tb\n c",
+    "a\n  b\n    c\n d\n",
+    "a\n b\n  c\n; x\n  d\n;y",
+    "= \"a;b\\\";c\\\\\";d\"e;f",
+    "\"a=b\\\"=\" = c = d",
+    "a;b\r=c\r\n;d;e",
+    "=;\n==\n= =;=",
+    " \t ; \u{A0} \t\n\t= \u{3000} ",
+];
+
 pub fn sample() -> String {
     let mut mixed = Mixed::new();
     let mut lines = String::new();
@@ -63,13 +94,33 @@ pub fn sample() -> String {
             lines += &line(tag, text, &[part.start, part.end]);
         }
     }
+    for document in documents() {
+        let numbers: Vec<usize> = tokens(&document).iter().flat_map(numbers).collect();
+        lines += &line("t", &document, &numbers);
+    }
     lines
+}
+
+fn numbers(row: &Row) -> [usize; 6] {
+    [row.number, row.line, row.start, row.end, row.from, row.to]
 }
 
 /// A tag, the text's bytes and the answer's numbers, as the program `vectors` reads them.
 fn line(tag: &str, text: &[u8], numbers: &[usize]) -> String {
     let numbers: String = numbers.iter().map(|number| format!(" {number}")).collect();
     format!("{tag} {}{numbers}\n", hex(text))
+}
+
+fn documents() -> BTreeSet<Vec<u8>> {
+    let random = &mut Random::new();
+    let mut documents: BTreeSet<_> = EXAMPLES.map(|text| text.as_bytes().to_vec()).into();
+    while documents.len() < DOCUMENTS {
+        let document = any(random);
+        if document.len() <= DOCUMENT_BYTES {
+            documents.insert(document);
+        }
+    }
+    documents
 }
 
 fn validity_texts(mixed: &mut Mixed) -> BTreeSet<Vec<u8>> {

@@ -15,7 +15,7 @@ returns-2 : tie.Need-returns-2
 returns-2 c = search needs
 
 array-share-prefix-bytes : tie.Need-array-share-prefix-bytes
-array-share-prefix-bytes c = c .before .before .text-of .ensures
+array-share-prefix-bytes c = search needs
 
 slice-aggregate-s : tie.Need-slice-aggregate-s
 slice-aggregate-s c = sym (length-take-le _ _ (c .before .before .before .text-of .ensures))
@@ -32,6 +32,9 @@ trimming-agrees-requires c κs = search needs
 trimming-agrees-requires-2 : tie.Need-trimming-agrees-requires-2
 trimming-agrees-requires-2 c κs = search needs
 
+tokens-agree-requires : tie.Need-tokens-agree-requires
+tokens-agree-requires c κs = search needs
+
 returns-3 : tie.Need-returns-3
 returns-3 c = search needs
 
@@ -43,6 +46,9 @@ returns-5 c = search needs
 
 returns-6 : tie.Need-returns-6
 returns-6 c = search needs
+
+returns-7 : tie.Need-returns-7
+returns-7 c = search needs
 
 pub check-line-spec : {M : Type 1} → statement M
 check-line-spec =
@@ -57,7 +63,9 @@ check-line-spec =
     utf8-agrees-requires
     trimming-agrees-requires
     trimming-agrees-requires-2
+    tokens-agree-requires
     returns-3
     returns-4
     returns-5
-    returns-6)
+    returns-6
+    returns-7)

@@ -1,0 +1,4 @@
+pub mod Pasting
+pub mod Slots
+pub mod Taking
+pub mod Batches

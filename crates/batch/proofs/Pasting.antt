@@ -1,0 +1,35 @@
+-- Words written over others from a place on: none, one more of a list, and next to those that stand at the front.
+use Prim.Native.Nat.{ℕ, _+_, _<_}
+use mathlib.Core.Path.{_≡_}
+use mathlib.Core.List.{List, [], _∷_, _++_, append-nil, append-assoc}
+use native.Mathlib.Nat.{add-zero, zero-add}
+use native.Mathlib.Numerals.{add-one}
+use native.Mathlib.Omega.{arith}
+use lib.ListN.{length, take, drop, getD, set, length-append, take-append-drop}
+use lib.Seq.{drop-cons, drop-drop, drop-append-add, take-suc, take-append-seam, set-at, append-snoc, length-take-le}
+use Rattle.batch.specs.Words.{pasted}
+
+pub pasted-none : (n : ℕ) (w : List ℕ) → w ≡ pasted [] n w
+unfolding pasted
+pasted-none n w = rw (append-nil, add-zero, take-append-drop)
+
+-- one word more after the k of s
+pub pasted-more : (s w : List ℕ) (n k a : ℕ) → length s ≡ k → n + k < length w → set (pasted s n w) (n + k) a ≡ pasted (s ++ (a ∷ [])) n w
+unfolding pasted
+pasted-more s w n k a e h =
+    let l : length (take n w ++ s) ≡ n + k = rw (length-append, length-take-le n w (omega arith), e) in
+    let m : n + length (s ++ (a ∷ [])) ≡ n + k + 1 = rw length-append (omega arith) in
+    rw (m, e, drop-cons w (n + k) 0 h, set-at (take n w ++ s) (getD w (n + k) 0) _ a (n + k) l, ← append-assoc, append-snoc, add-one)
+
+-- one word more of s
+pub pasted-next : (s w : List ℕ) (n i : ℕ) → i < length s → n + i < length w
+    → set (pasted (take i s) n w) (n + i) (getD s i 0) ≡ pasted (take (i + 1) s) n w
+pasted-next s w n i h k = rw (pasted-more (take i s) w n i (getD s i 0) (length-take-le i s (omega arith)) k, add-one, take-suc s i 0 h)
+
+pub pasted-front : (s w : List ℕ) → pasted s 0 w ≡ s ++ drop (length s) w
+unfolding pasted
+pasted-front s w = rw zero-add
+
+pub pasted-after : (a b w : List ℕ) (n : ℕ) → length a ≡ n → pasted b n (a ++ drop n w) ≡ a ++ b ++ drop (n + length b) w
+unfolding pasted
+pasted-after a b w n e = rw (← e, take-append-seam, drop-append-add, drop-drop)

@@ -1,0 +1,130 @@
+//! The documents: each is made of entries, every one a little different.
+
+/// Writes the entry of a number.
+type Entry = fn(usize) -> String;
+
+pub const ALL: [(&str, Entry); 7] = [
+    ("short entries", short_entry),
+    ("lists", list),
+    ("long comments", long_comment),
+    ("deep nesting", deep_nesting),
+    ("multiline values", multiline_value),
+    ("many scripts", many_scripts),
+    ("label-like mix", label),
+];
+
+const WORDS: [&str; 16] = [
+    "x",
+    "to",
+    "red",
+    "cell",
+    "donor",
+    "volume",
+    "leading",
+    "position",
+    "a b",
+    "12.5 mm",
+    "left",
+    "anticoagulant",
+    "O+",
+    "2 to 6 C",
+    "no",
+    "expires",
+];
+
+const SCRIPTS: [&str; 8] = [
+    "étiquette",
+    "группа крови",
+    "血液型",
+    "فصيلة الدم",
+    "ομάδα αίματος",
+    "रक्त समूह",
+    "혈액형",
+    "🩸 label",
+];
+
+/// As many entries as `bytes` bytes have room for.
+pub fn filled(entry: Entry, bytes: usize) -> Vec<u8> {
+    let mut document = String::new();
+    for number in 0.. {
+        let next = entry(number);
+        if document.len() + next.len() > bytes {
+            break;
+        }
+        document += &next;
+    }
+    document.into_bytes()
+}
+
+fn short_entry(number: usize) -> String {
+    format!("{} = {}\n", word(number, 1), word(number, 2))
+}
+
+fn list(number: usize) -> String {
+    let items: String = (1..10)
+        .map(|item| format!("  = {}\n", word(number, item)))
+        .collect();
+    format!("{}\n{items}", word(number, 0))
+}
+
+fn long_comment(number: usize) -> String {
+    let words: Vec<&str> = (2..50).map(|place| word(number, place)).collect();
+    format!("; {}\n{} = 1\n", words.join(" "), word(number, 1))
+}
+
+/// Sections nested 60 deep.
+fn deep_nesting(number: usize) -> String {
+    (0..=60)
+        .map(|depth| format!("{}{}\n", "  ".repeat(depth), word(number, depth)))
+        .collect()
+}
+
+fn multiline_value(number: usize) -> String {
+    let lines: String = (2..14)
+        .map(|line| format!("  {} {}\n", word(number, line), word(line, number)))
+        .collect();
+    format!("{} = \"\"\"text\n{lines}\n", word(number, 1))
+}
+
+fn many_scripts(number: usize) -> String {
+    let [key, value, note] = [1, 2, 3].map(|place| pick(&SCRIPTS, number, place));
+    format!("{key} = {value} ; {note}\n")
+}
+
+fn label(number: usize) -> String {
+    let [a, b, c, d, e] = [1, 2, 3, 4, 5].map(|place| word(number, place));
+    let script = pick(&SCRIPTS, number, 6);
+    format!(
+        "; {a} {b} {c}
+label {number}
+  size = 100 x {number} ; {d}
+  font = \"Sans \\{{{number:X}}}\"
+  fields
+    =
+      name = {e}
+      text = \"{script}: \\\"{a}\\\"\"
+    =
+      name = {b} {c}
+      barcode = code 128
+  lines
+    = 0, 0, {number}, 0
+    = 0, 10, {number}, 10
+  notice = \"\"\"
+    {script}
+    {c} {d} {e}
+
+    {b}
+
+"
+    )
+}
+
+fn word(number: usize, place: usize) -> &'static str {
+    pick(&WORDS, number, place)
+}
+
+/// One of `texts`, as if at random.
+fn pick(texts: &[&'static str], number: usize, place: usize) -> &'static str {
+    let mixed = (number * 64 + place).wrapping_mul(0x9E37_79B9_7F4A_7C15);
+    texts[(mixed >> 32) % texts.len()]
+}

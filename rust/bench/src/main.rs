@@ -1,0 +1,100 @@
+//! Times the port against the original: the same documents, in turn, in one run.
+#![forbid(unsafe_code)]
+
+mod documents;
+mod tokens;
+
+use std::env;
+use std::hint::black_box;
+use std::process::ExitCode;
+use std::time::{Duration, Instant};
+
+const USAGE: &str = "\
+usage: bench [--bytes N] [--rounds N]
+prints a table in Markdown: documents of up to N bytes, at most 16777216 (default 10000000), and the
+medians of N rounds (default 9)";
+
+/// What both sides do with a document. They return the same number, to which each answer adds.
+struct Task {
+    name: &'static str,
+    original: fn(&[u8]) -> usize,
+    port: fn(&[u8]) -> usize,
+}
+
+const TASKS: [Task; 1] = [tokens::TASK];
+
+struct Options {
+    bytes: usize,
+    rounds: usize,
+}
+
+fn main() -> ExitCode {
+    let Some(options) = options() else {
+        eprintln!("{USAGE}");
+        return ExitCode::from(2);
+    };
+    for task in TASKS {
+        print_table(&task, &options);
+    }
+    ExitCode::SUCCESS
+}
+
+fn options() -> Option<Options> {
+    let mut options = Options {
+        bytes: 10_000_000,
+        rounds: 9,
+    };
+    let mut words = env::args_os().skip(1);
+    while let Some(word) = words.next() {
+        let number = words.next()?.to_str()?.parse().ok().filter(|&n| n > 0)?;
+        match word.to_str()? {
+            "--bytes" => options.bytes = number,
+            "--rounds" => options.rounds = number,
+            _ => return None,
+        }
+    }
+    (options.bytes <= 16_777_216).then_some(options)
+}
+
+fn print_table(task: &Task, options: &Options) {
+    println!(
+        "| {} | Rust, MB/s | port, MB/s | port's time over Rust's |",
+        task.name
+    );
+    println!("|---|---:|---:|---:|");
+    for (name, entry) in documents::ALL {
+        let document = documents::filled(entry, options.bytes);
+        let (original, port) = medians(task, &document, options.rounds);
+        let speed = |time: Duration| document.len() as f64 / time.as_secs_f64() / 1e6;
+        println!(
+            "| {name} | {:.0} | {:.0} | {:.2} |",
+            speed(original),
+            speed(port),
+            port.as_secs_f64() / original.as_secs_f64(),
+        );
+    }
+}
+
+/// The time that each side takes, after a round that is not timed.
+fn medians(task: &Task, document: &[u8], rounds: usize) -> (Duration, Duration) {
+    let answers = [(task.original)(document), (task.port)(document)];
+    assert_eq!(answers[0], answers[1], "the two sides read alike");
+    let mut original = Vec::new();
+    let mut port = Vec::new();
+    for _ in 0..rounds {
+        original.push(time(task.original, document));
+        port.push(time(task.port, document));
+    }
+    (median(original), median(port))
+}
+
+fn time(read: fn(&[u8]) -> usize, document: &[u8]) -> Duration {
+    let start = Instant::now();
+    black_box(read(black_box(document)));
+    start.elapsed()
+}
+
+fn median(mut times: Vec<Duration>) -> Duration {
+    times.sort();
+    times[times.len() / 2]
+}
