@@ -7,10 +7,14 @@ use native.Mathlib.Omega.{arith}
 use lib.ListN.{length}
 use Rattle.tokenizer.specs.Scans.{breaks}
 use Rattle.tokenizer.specs.Lists.{tokens}
-use Rattle.tokenizer.specs.declared.token.Token.the-variants.{Newline, Comment, Indent, Outdent, MapKey}
+use Rattle.tokenizer.specs.declared.token.Token.the-variants.{Newline, Comment, Indent, Outdent, MapKey, NoValue}
 use Rattle.tokenizer.specs.declared.state.Answer.{Answer}
 use Rattle.tokenizer.specs.declared.state.Answer.the-variants.{Token}
 use Rattle.tokenizer.proofs.Examples.{part, rules}
+use Rattle.parser.specs.Lists.{parse}
+use Rattle.parser.specs.declared.ruling.Answer.{Answer as Said}
+use Rattle.parser.specs.declared.ruling.Answer.the-variants.{Token as said, Refused as refuses}
+use Rattle.parser.proofs.Examples.{rules as parseRules}
 use Rattle.joining.specs.Raising.{raisePart, raiseToken, raise, raised}
 use Rattle.joining.specs.Tokens.{Closed, topLevel}
 
@@ -63,3 +67,11 @@ line-feed = (refl, (refl, refl, λ e. let z : _≡_ {A = ℕ} 0 1 = cc in omega 
 pub cr-lf : Closed (13 ∷ []) × Apart (13 ∷ []) (10 ∷ []) (Token (Newline 1) ∷ []) (Token (Newline 1) ∷ Token (Newline 2) ∷ [])
 unfolding rules raise raiseToken raisePart
 cr-lf = (refl, (refl, refl, λ e. let z : _≡_ {A = ℕ} 0 1 = cc in omega arith))
+
+-- For the parser S's list has to begin with a key or an item: `a` LF then the byte FF. P's own list ends with a NoValue, and
+-- that of P then S has the refusal in its place.
+pub no-entry : (parse (97 ∷ 10 ∷ []) ≡ said (MapKey 1 (part 0 1)) ∷ said (Newline 1) ∷ said (NoValue 1) ∷ [])
+    × (parse (97 ∷ 10 ∷ 0xFF ∷ []) ≡ said (MapKey 1 (part 0 1)) ∷ said (Newline 1) ∷ refuses 1 2 ∷ [])
+    × ((l : List Said) → parse (97 ∷ 10 ∷ 0xFF ∷ []) ≡ parse (97 ∷ 10 ∷ []) ++ l → ⊥)
+unfolding parseRules
+no-entry = (refl, refl, λ l e. let z : _≡_ {A = ℕ} 0 1 = cc in omega arith)

@@ -11,7 +11,7 @@ use Rattle.parser.specs.declared.ruling.Answer.{Answer}
 use Rattle.parser.specs.declared.ruling.Answer.the-variants.{Token, Refused}
 
 -- what computing a parsing unfolds
-rules : List ℕ → List Answer
+unfoldable pub rules : List ℕ → List Answer
 unfolding tokenRules onEntry onOutdent onIndent settled afterEntry afterHint onToken onEnd rulingOf feed parsed parse
 rules d = parse d
 

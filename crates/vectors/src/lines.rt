@@ -27,6 +27,17 @@ fn digit(b: u8) -> u8
     }
 }
 
+// A line that can't be read.
+fn no_text(bytes: [u8; 256]) -> Text
+    ensures { λ r. ⌜ r .len ≤ length (r .bytes) ⌝ }
+{
+    Text {
+        bytes,
+        len: 0,
+        after: 0,
+    }
+}
+
 pub fn text_of(line: &[u8]) -> Text
     ensures { λ r. ⌜ r .len ≤ length (r .bytes) ⌝ }
 {
@@ -42,34 +53,18 @@ pub fn text_of(line: &[u8]) -> Text
             };
         }
         if line.len() <= at + 1 {
-            return Text {
-                bytes,
-                len: 0,
-                after: 0,
-            };
+            return no_text(bytes);
         }
         if 256 <= len {
-            return Text {
-                bytes,
-                len: 0,
-                after: 0,
-            };
+            return no_text(bytes);
         }
         let high = digit(line[at]);
         let low = digit(line[at + 1]);
         if 15 < high {
-            return Text {
-                bytes,
-                len: 0,
-                after: 0,
-            };
+            return no_text(bytes);
         }
         if 15 < low {
-            return Text {
-                bytes,
-                len: 0,
-                after: 0,
-            };
+            return no_text(bytes);
         }
         bytes[len] = high * 16 + low;
         len += 1;

@@ -1,8 +1,8 @@
 -- `text_of` is safe: two digits make a byte, and at most 256 of them are stored. Measure: the bytes left.
-use mathlib.Core.Path.{_≡_, _∙_}
-use lib.ListN.{length, length-set}
-use Prim.Native.Nat.{_-_, _≤_}
 use native.Mathlib.Omega.{arith}
+use Prim.Native.Nat.{_-_, _≤_}
+use lib.ListN.{length, length-set}
+use mathlib.Core.Path.{_≡_, _∙_}
 use borrow.Author.Needs.{needs}
 use Rattle.vectors.proofs.lines.text_of.Statement.{statement}
 use Rattle.vectors.proofs.lines.text_of.Tie as tie
@@ -25,8 +25,14 @@ returns c = search needs
 add-if2 : tie.Need-add-if2 Inv-loop μ-loop
 add-if2 c = search needs
 
+no-text-requires : tie.Need-no-text-requires Inv-loop μ-loop
+no-text-requires c κs = search needs
+
 returns-2 : tie.Need-returns-2 Inv-loop μ-loop
 returns-2 c = search needs
+
+no-text-requires-2 : tie.Need-no-text-requires-2 Inv-loop μ-loop
+no-text-requires-2 c κs = search needs
 
 returns-3 : tie.Need-returns-3 Inv-loop μ-loop
 returns-3 c = search needs
@@ -46,8 +52,14 @@ shared-slice-read-digit-2 c = search needs
 digit-requires-2 : tie.Need-digit-requires-2 Inv-loop μ-loop
 digit-requires-2 c κs = search needs
 
+no-text-requires-3 : tie.Need-no-text-requires-3 Inv-loop μ-loop
+no-text-requires-3 c κs = search needs
+
 returns-4 : tie.Need-returns-4 Inv-loop μ-loop
 returns-4 c = search needs
+
+no-text-requires-4 : tie.Need-no-text-requires-4 Inv-loop μ-loop
+no-text-requires-4 c κs = search needs
 
 returns-5 : tie.Need-returns-5 Inv-loop μ-loop
 returns-5 c = search needs
@@ -88,14 +100,18 @@ text-of-spec =
     shared-slice-read-if1
     returns
     add-if2
+    no-text-requires
     returns-2
+    no-text-requires-2
     returns-3
     shared-slice-read-digit
     digit-requires
     add-digit
     shared-slice-read-digit-2
     digit-requires-2
+    no-text-requires-3
     returns-4
+    no-text-requires-4
     returns-5
     mul-bytes
     add-bytes
