@@ -13,6 +13,7 @@ use Rattle.text.specs.Utf8.{utf8, owes}
 use Rattle.text.specs.declared.bytes.Part.{Part}
 use Rattle.text.proofs.Cases.{by-bool, on-cond, and-left}
 use Rattle.tokenizer.specs.Token.{lineOf}
+use Rattle.tokenizer.specs.Lists.{tokens}
 use Rattle.tokenizer.specs.Step.{bytesOf, noPart, fitPart}
 use Rattle.tokenizer.specs.declared.token.Token.{Token}
 use Rattle.tokenizer.specs.declared.token.Token.the-variants.{
@@ -30,6 +31,7 @@ use Rattle.tokenizer.specs.declared.token.Token.the-variants.{
 use Rattle.tokenizer.specs.declared.state.Answer.{Answer as Came}
 use Rattle.tokenizer.specs.declared.state.Answer.the-variants as came
 use Rattle.reading.specs.Claims.{Text, TokenFits, Fits, All}
+use Rattle.reading.proofs.Claimed.{fit as reading-fit}
 use Rattle.text.specs.Bytes.{countWhile, notBreak}
 use Rattle.text.specs.Scalar.{isScalar, encoding}
 use Rattle.unescape.specs.Codes.{codeOf, simpleOf}
@@ -56,6 +58,7 @@ use Rattle.unescape.specs.declared.Answer.the-variants.{Plain, Written, Refused
 use Rattle.joining.specs.Raising.{raisePart, raiseToken}
 use Rattle.joining.specs.Alike.{Same, Alike}
 use Rattle.joining.specs.Joined.{EachToken}
+use Rattle.joining.specs.Never13.{Not13, Never13}
 use Rattle.joining.proofs.Places.{part-above, part-below}
 
 -- A token of a reading is sound, so it is delivered
@@ -91,13 +94,13 @@ unfolding unescapeOf deliver
 unescaped d t o l f =
     rw (le-ltb 16777216 (length d) l, text-sound d (wordsOf t .text) (f .0), text-sound d (wordsOf t .indent) (f .1))
 
--- A meaning's part lies within its text, and no refusal but an invalid code is 8
+-- A meaning's part lies within its text; no refusal but an invalid code is 8, and none is 13
 
 abbrev Proper : ℕ → Meaning → Type 0
 Proper n (part a e) = (a ≤ e) × (e ≤ n)
 Proper n (bytes w) = Unit {0}
 Proper n (code a e) = Unit {0}
-Proper n (refused r) = eqb r 8 ≡ false
+Proper n (refused r) = (eqb r 8 ≡ false) × (eqb r 13 ≡ false)
 
 written-proper : (n : ℕ) (w : List ℕ) (m : Meaning) → Proper n m → Proper n (written w m)
 written-proper n w (part a e) h = h
@@ -107,12 +110,12 @@ written-proper n w (refused r) h = h
 
 closed-proper : (n : ℕ) (r : List ℕ) → Proper n (closed r)
 closed-proper n [] = tt
-closed-proper n (b ∷ r) = refl
+closed-proper n (b ∷ r) = (refl, refl)
 
 quoted-proper : (n : ℕ) (l : List ℕ) (m : Mode) (k : ℕ) → Proper n (quoted l m k)
 unfolding quoted
-quoted-proper n [] plain k = refl
-quoted-proper n [] (escape s) k = refl
+quoted-proper n [] plain k = (refl, refl)
+quoted-proper n [] (escape s) k = (refl, refl)
 quoted-proper n [] (brace s h) k = tt
 quoted-proper n (b ∷ r) plain k =
     on-cond (Proper n) (eqb b 34) (λ e. closed-proper n r)
@@ -159,7 +162,7 @@ module _ (p s : List ℕ) where
   answer-above (bytes w) k l n o h f =
       by-bool (leb (length w) (length o)) (λ e. rw e refl) (λ e. rw e (refl, omega arith, refl))
   answer-above (code a e) k l n o h f = (refl, omega arith, rw (zero-add, zero-add))
-  answer-above (refused r) k l n o h f = (refl, omega arith, rw h)
+  answer-above (refused r) k l n o h f = (refl, omega arith, rw (h .0))
 
   -- at a place of S and, raised, of P then S
   answer-below : (m : Meaning) (k l j n : ℕ) (o : List ℕ) → Proper n m
@@ -169,7 +172,7 @@ module _ (p s : List ℕ) where
   answer-below (bytes w) k l j n o h =
       by-bool (leb (length w) (length o)) (λ e. rw e refl) (λ e. rw e (refl, refl, refl))
   answer-below (code a e) k l j n o h = (refl, refl, rw (add-assoc, add-assoc))
-  answer-below (refused r) k l j n o h = (refl, refl, rw h)
+  answer-below (refused r) k l j n o h = (refl, refl, rw (h .0))
 
   -- Tokens of P
 
@@ -290,3 +293,21 @@ each-token d F h [] a = tt
 each-token d F h (came.End ∷ l) a = absurd (a .0)
 each-token d F h (came.Token t ∷ l) a = (h t (a .0), each-token d F h l (a .1))
 each-token d F h (came.Refused n m ∷ l) a = each-token d F h l (a .1)
+
+delivered-not13 : (m : Meaning) (n k l : ℕ) (o : List ℕ) → Proper n m → Not13 (delivered m k l o .answer)
+unfolding delivered
+delivered-not13 (part a e) n k l o h = tt
+delivered-not13 (bytes w) n k l o h = by-bool (leb (length w) (length o)) (λ e. rw e tt) (λ e. rw e refl)
+delivered-not13 (code a e) n k l o h = refl
+delivered-not13 (refused r) n k l o h = h .1
+
+token-not13 : (d : List ℕ) (t : Token) → length d ≤ 16777216 → TokenFits d t → (o : List ℕ) → Not13 (unescapeOf d t o .answer)
+unfolding deliver
+token-not13 d t l f o =
+    let s = bytesOf d (wordsOf t .text) in
+    rw (unescaped d t o l (words-fit d t f))
+    (delivered-not13 (wordsIn d (wordsOf t)) (length s) (wordsOf t .text .start) (lineOf t) o
+    (meaning-proper (wordsOf t .reading) s (bytesOf d (wordsOf t .indent))))
+
+pub never13 : Never13
+never13 d l = each-token d _ (λ t f. token-not13 d t l f) (tokens d) (reading-fit d l)

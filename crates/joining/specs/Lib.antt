@@ -2,3 +2,4 @@ pub mod Raising
 pub mod Tokens
 pub mod Alike
 pub mod Joined
+pub mod Never13
