@@ -52,7 +52,10 @@ use Rattle.unescape.specs.Meaning.{
   entryMeaning,
   blockMeaning,
 }
-use Rattle.unescape.specs.Unescape.{Reading, meaning, Worded, worded, asIs, entry, block, wordsOf, sound, Unescaped, delivered, wordsIn, unescapeOf}
+use Rattle.unescape.specs.Unescape.{meaning, worded, wordsOf, sound, Unescaped, delivered, wordsIn, unescapeOf}
+use Rattle.unescape.specs.declared.words.Reading.{Reading}
+use Rattle.unescape.specs.declared.words.Reading.the-variants.{AsIs, Entry, Block}
+use Rattle.unescape.specs.declared.words.Worded.{Worded}
 use Rattle.unescape.specs.declared.Answer.{Answer}
 use Rattle.unescape.specs.declared.Answer.the-variants.{Plain, Written, Refused}
 use Rattle.joining.specs.Raising.{raisePart, raiseToken}
@@ -140,9 +143,9 @@ entry-proper (b ∷ r) =
 
 meaning-proper : (r : Reading) (s i : List ℕ) → Proper (length s) (meaning r s i)
 unfolding meaning blockMeaning
-meaning-proper asIs s i = (omega arith, omega arith)
-meaning-proper entry s i = entry-proper s
-meaning-proper block s i = on-cond (Proper (length s)) (eqb (countWhile notBreak s) (length s)) (λ e. (omega arith, omega arith)) (λ e. tt)
+meaning-proper AsIs s i = (omega arith, omega arith)
+meaning-proper Entry s i = entry-proper s
+meaning-proper Block s i = on-cond (Proper (length s)) (eqb (countWhile notBreak s) (length s)) (λ e. (omega arith, omega arith)) (λ e. tt)
 
 -- One meaning, delivered at two places
 
@@ -256,12 +259,12 @@ module _ (p s : List ℕ) where
       l
 
   -- a token without a text keeps its empty part at 0
-  none-delivered : (d : List ℕ) (t : Token) (o : List ℕ) → wordsOf t ≡ worded asIs noPart → length d ≤ 16777216
+  none-delivered : (d : List ℕ) (t : Token) (o : List ℕ) → wordsOf t ≡ worded AsIs noPart → length d ≤ 16777216
       → unescapeOf d t o ≡ record { answer = Plain noPart; buffer = o }
   unfolding deliver meaning delivered
   none-delivered d t o x l = unescaped d t o l (rw x (none-text d, none-text d)) ∙ rw x
 
-  bare-alike : (j : ℕ) (t u : Token) → wordsOf t ≡ worded asIs noPart → wordsOf u ≡ worded asIs noPart → length (p ++ s) ≤ 16777216
+  bare-alike : (j : ℕ) (t u : Token) → wordsOf t ≡ worded AsIs noPart → wordsOf u ≡ worded AsIs noPart → length (p ++ s) ≤ 16777216
       → Alike j (length p) (p ++ s) t s u
   unfolding Same
   bare-alike j t u x y l =
@@ -274,15 +277,15 @@ module _ (p s : List ℕ) where
   pub token-below : (j : ℕ) (t : Token) → length (p ++ s) ≤ 16777216 → TokenFits s t → Alike j (length p) (p ++ s) (raiseToken j (length p) t) s t
   unfolding raiseToken wordsOf lineOf
   token-below j (Newline m) l f = bare-alike j _ _ refl refl l
-  token-below j (Comment m q) l f = texted-alike j _ _ asIs q refl refl refl f l
+  token-below j (Comment m q) l f = texted-alike j _ _ AsIs q refl refl refl f l
   token-below j (Indent m) l f = bare-alike j _ _ refl refl l
   token-below j (Outdent m) l f = bare-alike j _ _ refl refl l
   token-below j (ListItem m) l f = bare-alike j _ _ refl refl l
-  token-below j (MapKey m q) l f = texted-alike j _ _ entry q refl refl refl f l
-  token-below j (Value m q) l f = texted-alike j _ _ entry q refl refl refl f l
-  token-below j (MultilineHint m q) l f = texted-alike j _ _ asIs q refl refl refl f l
+  token-below j (MapKey m q) l f = texted-alike j _ _ Entry q refl refl refl f l
+  token-below j (Value m q) l f = texted-alike j _ _ Entry q refl refl refl f l
+  token-below j (MultilineHint m q) l f = texted-alike j _ _ AsIs q refl refl refl f l
   token-below j (MultilineValue m i q) l f =
-      lifted-alike j _ _ block q i (raisePart (length p) i)
+      lifted-alike j _ _ Block q i (raisePart (length p) i)
       (record { line = refl; lower = refl; upper = refl; indents = part-below p s i; indented = (text-below i (f .0), f .0); texted = f .1 })
       l
   token-below j (NoValue m) l f = absurd f

@@ -48,7 +48,8 @@ use Rattle.unescape.specs.Meaning.{
   joinedLines,
   blockMeaning,
 }
-use Rattle.unescape.specs.Unescape.{asIs, entry, block, meaning}
+use Rattle.unescape.specs.Unescape.{meaning}
+use Rattle.unescape.specs.declared.words.Reading.the-variants.{AsIs, Entry, Block}
 
 utf8-nil : utf8 [] ≡ true
 unfolding utf8 owes
@@ -100,10 +101,10 @@ closing {p} u [] = wrote (ended p u)
 closing u (b ∷ r) = none
 
 -- a byte that may follow a backslash, and the one that both stand for, are below 80
-abbrev Simple : ℕ → ℕ → Type 0
+abbrev pub Simple : ℕ → ℕ → Type 0
 Simple b v = eqb v 0 ≡ false → (b < 0x80) × (v < 0x80)
 
-simple : (b : ℕ) → Simple b (simpleOf b)
+pub simple : (b : ℕ) → Simple b (simpleOf b)
 unfolding simpleOf
 simple b =
     on-cond (Simple b) (eqb b 34) (λ t e. omega (arith, eqb-true b 34 t))
@@ -239,6 +240,6 @@ module _ (indent : List ℕ) (i : utf8 indent ≡ true) where
 
 pub valid : Valid
 unfolding meaning
-valid asIs s indent u i = whole s u
-valid entry s indent u i = entry-valid s u
-valid block s indent u i = block-valid indent i s u
+valid AsIs s indent u i = whole s u
+valid Entry s indent u i = entry-valid s u
+valid Block s indent u i = block-valid indent i s u

@@ -1,4 +1,5 @@
 pub mod Codes
 pub mod Meaning
 pub mod Unescape
+pub mod Pieces
 pub mod Claims

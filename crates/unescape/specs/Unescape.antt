@@ -22,41 +22,33 @@ use Rattle.tokenizer.specs.declared.token.Token.the-variants.{
   NoValue,
 }
 use Rattle.unescape.specs.Meaning.{Meaning, part, bytes, code, refused, entryMeaning, blockMeaning}
+use Rattle.unescape.specs.declared.words.Reading.{Reading}
+use Rattle.unescape.specs.declared.words.Reading.the-variants.{AsIs, Entry, Block}
+use Rattle.unescape.specs.declared.words.Worded.{Worded}
 use Rattle.unescape.specs.declared.Answer.{Answer}
 use Rattle.unescape.specs.declared.Answer.the-variants.{Plain, Written, Refused}
 
--- how a text is read: as it stands, as a key or a value, or as a multiline value
-pub data Reading : Type 0 where
-  asIs : Reading
-  entry : Reading
-  block : Reading
-
 -- a text as its kind is read
 unfoldable pub meaning : Reading → List ℕ → List ℕ → Meaning
-meaning asIs s i = part 0 (length s)
-meaning entry s i = entryMeaning s
-meaning block s i = blockMeaning i s
+meaning AsIs s i = part 0 (length s)
+meaning Entry s i = entryMeaning s
+meaning Block s i = blockMeaning i s
 
 -- a token's text, where it has one
-pub record Worded : Type 0 where
-  pub reading : Reading
-  pub text : Part
-  pub indent : Part
-
 abbrev pub worded : Reading → Part → Worded
 worded r p = record { reading = r; text = p; indent = noPart }
 
 unfoldable pub wordsOf : Token → Worded
-wordsOf (Newline l) = worded asIs noPart
-wordsOf (Comment l p) = worded asIs p
-wordsOf (Indent l) = worded asIs noPart
-wordsOf (Outdent l) = worded asIs noPart
-wordsOf (ListItem l) = worded asIs noPart
-wordsOf (MapKey l p) = worded entry p
-wordsOf (Value l p) = worded entry p
-wordsOf (MultilineHint l p) = worded asIs p
-wordsOf (MultilineValue l i p) = record { reading = block; text = p; indent = i }
-wordsOf (NoValue l) = worded asIs noPart
+wordsOf (Newline l) = worded AsIs noPart
+wordsOf (Comment l p) = worded AsIs p
+wordsOf (Indent l) = worded AsIs noPart
+wordsOf (Outdent l) = worded AsIs noPart
+wordsOf (ListItem l) = worded AsIs noPart
+wordsOf (MapKey l p) = worded Entry p
+wordsOf (Value l p) = worded Entry p
+wordsOf (MultilineHint l p) = worded AsIs p
+wordsOf (MultilineValue l i p) = record { reading = Block; text = p; indent = i }
+wordsOf (NoValue l) = worded AsIs noPart
 
 -- a part that does not start after its end, nor end past the document, and is UTF-8; else 13
 unfoldable pub sound : List ℕ → Part → Bool
@@ -70,15 +62,19 @@ pub record Unescaped : Type 0 where
 abbrev pub keptBuffer : Answer → List ℕ → Unescaped
 keptBuffer a o = record { answer = a; buffer = o }
 
+-- a refusal that shows no part
+abbrev pub refusal : ℕ → ℕ → Answer
+refusal n l = Refused n l noPart
+
 -- a meaning of a text that starts at n, on line l: written text fills the buffer's first bytes, and 14 is for a shorter buffer
 unfoldable pub delivered : Meaning → ℕ → ℕ → List ℕ → Unescaped
 delivered (part a e) n l o = keptBuffer (Plain (record { start = n + a; end = n + e })) o
 delivered (bytes w) n l o =
     cond (leb (length w) (length o))
     (record { answer = Written (length w); buffer = w ++ drop (length w) o })
-    (keptBuffer (Refused 14 l noPart) o)
+    (keptBuffer (refusal 14 l) o)
 delivered (code a e) n l o = keptBuffer (Refused 8 l (record { start = n + a; end = n + e })) o
-delivered (refused r) n l o = keptBuffer (Refused r l noPart) o
+delivered (refused r) n l o = keptBuffer (refusal r l) o
 
 abbrev pub wordsIn : List ℕ → Worded → Meaning
 wordsIn d w = meaning (w .reading) (bytesOf d (w .text)) (bytesOf d (w .indent))
@@ -88,5 +84,15 @@ unfoldable pub unescapeOf : List ℕ → Token → List ℕ → Unescaped
 unescapeOf d t o =
     let w = wordsOf t in
     let u = delivered (wordsIn d w) (w .text .start) (lineOf t) o in
-    cond (ltb 16777216 (length d)) (keptBuffer (Refused 12 0 noPart) o)
-    (cond (sound d (w .text) && sound d (w .indent)) u (keptBuffer (Refused 13 (lineOf t) noPart) o))
+    cond (ltb 16777216 (length d)) (keptBuffer (refusal 12 0) o)
+    (cond (sound d (w .text) && sound d (w .indent)) u (keptBuffer (refusal 13 (lineOf t)) o))
+
+-- the bytes of the part that is answered, else none
+abbrev pub shownBy : List ℕ → Answer → List ℕ
+shownBy d (Plain p) = bytesOf d p
+shownBy d (Written n) = []
+shownBy d (Refused n l p) = []
+
+-- the text of a token that is not rewritten: what unescaping answers, whatever the buffer
+unfoldable pub plainOf : List ℕ → Token → List ℕ
+plainOf d t = shownBy d (unescapeOf d t [] .answer)

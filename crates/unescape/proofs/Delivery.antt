@@ -1,0 +1,185 @@
+-- A measured meaning is delivered as its measure says: the pieces make up no part, and a code that is shown lies within the text.
+use Prim.Native.Nat.{ℕ, _+_, _-_, _≤_, _<_}
+use mathlib.Core.Path.{_≡_, refl, sym, ap, _∙_}
+use mathlib.Core.List.{List, [], _∷_, _++_}
+use mathlib.Core.Bool.{Bool, true, false, cond, _&&_}
+use native.Mathlib.Omega.{arith}
+use lib.Dec.{eqb, leb, ltb}
+use lib.ListN.{length, take, drop, length-drop}
+use borrow.Author.Tests.{le-leb, lt-leb, lt-ltb, le-ltb, leb-true}
+use Rattle.text.specs.Scalar.{isScalar, encoding}
+use Rattle.text.specs.Utf8.{charLen, utf8}
+use Rattle.text.specs.declared.bytes.Part.{Part}
+use Rattle.text.proofs.Cases.{on-cond, by-bool, and-left, and-right}
+use Rattle.text.proofs.Chars.{charLen-le}
+use Rattle.unescape.specs.Codes.{codeOf, simpleOf}
+use Rattle.unescape.specs.Meaning.{Meaning, part, bytes, code, refused, written, Mode, plain, escape, brace, closed, quoted}
+use Rattle.unescape.specs.Pieces.{meaningFrom, measuredOf, Fits, filled, startOf}
+use Rattle.unescape.specs.Unescape.{meaning, Unescaped, keptBuffer, refusal, delivered}
+use Rattle.unescape.specs.declared.Answer.{Answer}
+use Rattle.unescape.specs.declared.Answer.the-variants.{Plain, Written, Refused}
+use Rattle.unescape.specs.declared.pieces.Spot.{Spot}
+use Rattle.unescape.specs.declared.pieces.Spot.the-variants.{Quotes, FirstLine, LaterLine, Break}
+use Rattle.unescape.specs.declared.words.Reading.{Reading}
+use Rattle.unescape.specs.declared.words.Start.the-variants.{Plain as Whole, Pieces}
+use Rattle.unescape.specs.declared.walk.Measured.the-variants.{Length}
+use Rattle.unescape.specs.declared.walk.Measured.the-variants.{Code as CodeAt, Refused as RefusedBy}
+use Rattle.unescape.proofs.Starts.{part-means, pieces-mean, pieces-lie}
+
+-- no part, and a code that ends within k bytes
+abbrev pub Ends : ℕ → Meaning → Type 0
+Ends k (part a e) = ⊥
+Ends k (bytes w) = Unit {0}
+Ends k (code a e) = (a ≤ k) × (e ≤ k)
+Ends k (refused r) = Unit {0}
+
+written-ends : (k j : ℕ) (w : List ℕ) (m : Meaning) → j ≤ k → Ends j m → Ends k (written w m)
+written-ends k j w (part a e) h x = x
+written-ends k j w (bytes l) h x = tt
+written-ends k j w (code a e) h x = (omega arith, omega arith)
+written-ends k j w (refused r) h x = tt
+
+ends-more : (k j : ℕ) (m : Meaning) → j ≤ k → Ends j m → Ends k m
+ends-more k j (part a e) h x = x
+ends-more k j (bytes l) h x = tt
+ends-more k j (code a e) h x = (omega arith, omega arith)
+ends-more k j (refused r) h x = tt
+
+closed-ends : (k : ℕ) (r : List ℕ) → Ends k (closed r)
+closed-ends k [] = tt
+closed-ends k (b ∷ r) = tt
+
+-- the backslash of an escape stands before n
+abbrev Before : Mode → ℕ → Type 0
+Before plain n = Unit {0}
+Before (escape s) n = s ≤ n
+Before (brace s h) n = s ≤ n
+
+quoted-ends : (r : List ℕ) (d : Mode) (n : ℕ) → Before d n → Ends (n + length r) (quoted r d n)
+unfolding quoted
+quoted-ends [] plain n h = tt
+quoted-ends [] (escape s) n h = tt
+quoted-ends [] (brace s l) n h = (omega arith, omega arith)
+quoted-ends (b ∷ r) plain n h =
+    let k = n + length (b ∷ r) in
+    on-cond (Ends k) (eqb b 34) (λ _. closed-ends k r)
+    (λ _. on-cond (Ends k) (eqb b 92)
+    (λ _. ends-more k (n + 1 + length r) (quoted r (escape n) (n + 1)) (omega arith) (quoted-ends r (escape n) (n + 1) (omega arith)))
+    (λ _. written-ends k (n + 1 + length r) (b ∷ []) (quoted r plain (n + 1)) (omega arith) (quoted-ends r plain (n + 1) tt)))
+quoted-ends (b ∷ r) (escape s) n h =
+    let k = n + length (b ∷ r) in
+    on-cond (Ends k) (eqb b 123)
+    (λ _. ends-more k (n + 1 + length r) (quoted r (brace s []) (n + 1)) (omega arith) (quoted-ends r (brace s []) (n + 1) (omega arith)))
+    (λ _. on-cond (Ends k) (eqb (simpleOf b) 0)
+    (λ _. (omega arith, omega (arith, charLen-le (b ∷ r))))
+    (λ _. written-ends k (n + 1 + length r) (simpleOf b ∷ []) (quoted r plain (n + 1)) (omega arith) (quoted-ends r plain (n + 1) tt)))
+quoted-ends (b ∷ r) (brace s l) n h =
+    let k = n + length (b ∷ r) in
+    on-cond (Ends k) (eqb b 125)
+    (λ _. on-cond (Ends k) (isScalar (codeOf l))
+    (λ _. written-ends k (n + 1 + length r) (encoding (codeOf l)) (quoted r plain (n + 1)) (omega arith) (quoted-ends r plain (n + 1) tt))
+    (λ _. (omega arith, omega arith)))
+    (λ _. on-cond (Ends k) (eqb b 34)
+    (λ _. (omega arith, omega arith))
+    (λ _. ends-more k (n + 1 + length r) (quoted r (brace s (l ++ b ∷ [])) (n + 1)) (omega arith) (quoted-ends r (brace s (l ++ b ∷ [])) (n + 1) (omega arith))))
+
+pub pieces-end : (spot : Spot) (indent s : List ℕ) (n : ℕ) → n ≤ length s → Ends (length s) (meaningFrom spot indent (drop n s) n)
+unfolding meaningFrom
+pieces-end Quotes indent s n h =
+    ends-more (length s) (n + length (drop n s)) (quoted (drop n s) plain n) (rw length-drop (omega arith)) (quoted-ends (drop n s) plain n tt)
+pieces-end FirstLine indent s n h = tt
+pieces-end LaterLine indent s n h = tt
+pieces-end Break indent s n h = tt
+
+-- The meaning by its measure
+
+code-ends : (k : ℕ) {a e : ℕ} (m : Meaning) → Ends k m → CodeAt a e ≡ measuredOf m → (a ≤ k) × (e ≤ k)
+code-ends k (part a e) x q = absurd x
+code-ends k (bytes l) x q = let z : _≡_ {A = ℕ} 0 1 = cc in absurd (omega arith)
+code-ends k {a} {e} (code b f) x q = let y : a ≡ b = cc in let z : e ≡ f = cc in (omega arith, omega arith)
+code-ends k (refused r) x q = let z : _≡_ {A = ℕ} 0 1 = cc in absurd (omega arith)
+
+module _ (k from line : ℕ) (o : List ℕ) where
+  too-short : {n : ℕ} (m : Meaning) → Ends k m → Length n ≡ measuredOf m → length o < n → delivered m from line o ≡ keptBuffer (refusal 14 line) o
+  unfolding delivered
+  too-short (part a e) x q h = absurd x
+  too-short {n} (bytes w) x q h = let y : n ≡ length w = cc in rw (lt-leb (length w) (length o) (omega arith))
+  too-short (code a e) x q h = let z : _≡_ {A = ℕ} 0 1 = cc in absurd (omega arith)
+  too-short (refused r) x q h = let z : _≡_ {A = ℕ} 0 1 = cc in absurd (omega arith)
+
+  enough : {n : ℕ} (m : Meaning) → Ends k m → Length n ≡ measuredOf m → n ≤ length o → Fits m (length o)
+  enough (part a e) x q h = x
+  enough {n} (bytes w) x q h = let y : n ≡ length w = cc in omega arith
+  enough (code a e) x q h = let z : _≡_ {A = ℕ} 0 1 = cc in absurd (omega arith)
+  enough (refused r) x q h = let z : _≡_ {A = ℕ} 0 1 = cc in absurd (omega arith)
+
+  wrote : {n : ℕ} (m : Meaning) → Ends k m → Length n ≡ measuredOf m → n ≤ length o
+      → delivered m from line o ≡ record { answer = Written n; buffer = filled m o }
+  unfolding delivered
+  wrote (part a e) x q h = absurd x
+  wrote {n} (bytes w) x q h = let y : n ≡ length w = cc in rw (y, le-leb (length w) (length o) (omega arith))
+  wrote (code a e) x q h = let z : _≡_ {A = ℕ} 0 1 = cc in absurd (omega arith)
+  wrote (refused r) x q h = let z : _≡_ {A = ℕ} 0 1 = cc in absurd (omega arith)
+
+  shows : {a e : ℕ} (m : Meaning) → Ends k m → CodeAt a e ≡ measuredOf m
+      → delivered m from line o ≡ keptBuffer (Refused 8 line (record { start = from + a; end = from + e })) o
+  unfolding delivered
+  shows (part a e) x q = absurd x
+  shows (bytes w) x q = let z : _≡_ {A = ℕ} 0 1 = cc in absurd (omega arith)
+  shows {a} {e} (code b f) x q = let y : a ≡ b = cc in let z : e ≡ f = cc in rw (y, z)
+  shows (refused r) x q = let z : _≡_ {A = ℕ} 0 1 = cc in absurd (omega arith)
+
+  refuses : {n : ℕ} (m : Meaning) → Ends k m → RefusedBy n ≡ measuredOf m → delivered m from line o ≡ keptBuffer (refusal n line) o
+  unfolding delivered
+  refuses (part a e) x q = absurd x
+  refuses (bytes w) x q = let z : _≡_ {A = ℕ} 0 1 = cc in absurd (omega arith)
+  refuses (code a e) x q = let z : _≡_ {A = ℕ} 0 1 = cc in absurd (omega arith)
+  refuses {n} (refused r) x q = let y : n ≡ r = cc in rw y
+
+parted : (a e from line : ℕ) (o : List ℕ) → delivered (part a e) from line o ≡ keptBuffer (Plain (record { start = from + a; end = from + e })) o
+unfolding delivered
+parted a e from line o = refl
+
+-- what is promised of an answer and a buffer
+pub promised : {u v : Unescaped} → u ≡ v → (v .answer ≡ u .answer) × (v .buffer ≡ u .buffer)
+promised q = (ap (λ (x : Unescaped). x .answer) (sym q), ap (λ (x : Unescaped). x .buffer) (sym q))
+
+-- A text that is read, and what is answered of it
+
+abbrev pub Answered : Unescaped → Answer → List ℕ → Type 0
+Answered u a o = (a ≡ u .answer) × (o ≡ u .buffer)
+
+module _ (reading : Reading) (s indent o : List ℕ) (from line : ℕ) where
+  abbrev result : Unescaped
+  result = delivered (meaning reading s indent) from line o
+
+  pub plain-answered : {a e : ℕ} → startOf reading s ≡ Whole a e → Answered result (Plain (record { start = from + a; end = from + e })) o
+  plain-answered {a} {e} q = promised (ap (λ m. delivered m from line o) (part-means reading s indent q) ∙ parted a e from line o)
+
+  module _ (n : ℕ) (spot : Spot) (q : startOf reading s ≡ Pieces n spot) where
+    abbrev meant : Meaning
+    meant = meaningFrom spot indent (drop n s) n
+
+    ends : Ends (length s) meant
+    ends = pieces-end spot indent s n (pieces-lie reading s q)
+
+    by : {u : Unescaped} → delivered meant from line o ≡ u → Answered result (u .answer) (u .buffer)
+    by e = promised (ap (λ m. delivered m from line o) (pieces-mean reading s indent q) ∙ e)
+
+    pub short-answered : {k : ℕ} → Length k ≡ measuredOf meant → length o < k → Answered result (refusal 14 line) o
+    short-answered r h = by (too-short (length s) from line o meant ends r h)
+
+    pub text-fits : {k : ℕ} → Length k ≡ measuredOf meant → k ≤ length o → Fits meant (length o)
+    text-fits r h = enough (length s) from line o meant ends r h
+
+    pub text-answered : {k : ℕ} → Length k ≡ measuredOf meant → k ≤ length o → Answered result (Written k) (filled meant o)
+    text-answered r h = by (wrote (length s) from line o meant ends r h)
+
+    pub code-lies : {a e : ℕ} → CodeAt a e ≡ measuredOf meant → (a ≤ length s) × (e ≤ length s)
+    code-lies r = code-ends (length s) meant ends r
+
+    pub code-answered : {a e : ℕ} → CodeAt a e ≡ measuredOf meant → Answered result (Refused 8 line (record { start = from + a; end = from + e })) o
+    code-answered r = by (shows (length s) from line o meant ends r)
+
+    pub refusal-answered : {k : ℕ} → RefusedBy k ≡ measuredOf meant → Answered result (refusal k line) o
+    refusal-answered r = by (refuses (length s) from line o meant ends r)

@@ -1,0 +1,131 @@
+// Unescaping a token of a document.
+use crate::Answer;
+use crate::walk::Measured;
+use crate::walk::measure;
+use crate::walk::write;
+use crate::words::Reading;
+use crate::words::Start;
+use crate::words::is_sound;
+use crate::words::start_of;
+use crate::words::words_of;
+use text::Part;
+use tokenizer::State;
+use tokenizer::Token;
+ghost use mathlib.Core.Path.{_≡_};
+ghost use Prim.Native.Nat.{_+_, _≤_};
+ghost use lib.ListN.{length};
+ghost use Rattle.unescape.specs.Unescape.{refusal, meaning, delivered, unescapeOf, plainOf};
+ghost use Rattle.unescape.specs.Pieces.{startOf, plainBy};
+
+// A refusal that shows no part.
+fn refuse(number: usize, line: usize) -> Answer
+    ensures { λ r. ⌜ r ≡ refusal number line ⌝ }
+{
+    Answer::Refused(number, line, Part { start: 0, end: 0 })
+}
+
+// A text that starts at `from`, as it is read. It is measured before it is written, so that a refusal leaves the buffer alone.
+fn deliver(
+    reading: Reading,
+    s: &[u8],
+    indent: &[u8],
+    from: usize,
+    line: usize,
+    out: &mut [u8],
+) -> Answer
+    requires { ⌜ from + length (now s) ≤ 16777216 ⌝ }
+    ensures { λ r. ⌜ r ≡ delivered (meaning reading (now (s .entry)) (now (indent .entry))) from line (now (out .entry)) .answer ⌝ }
+    ensures { λ _. ⌜ now (out .exit) ≡ delivered (meaning reading (now (s .entry)) (now (indent .entry))) from line (now (out .entry)) .buffer ⌝ }
+{
+    match start_of(reading, s) {
+        Start::Plain(a, e) => Answer::Plain(Part {
+            start: from + a,
+            end: from + e,
+        }),
+        Start::Pieces(at, spot) => match measure(at, spot, indent, s) {
+            Measured::Length(n) => {
+                if out.len() < n {
+                    return refuse(14, line);
+                }
+                write(at, spot, indent, s, out);
+                Answer::Written(n)
+            }
+            Measured::Code(a, e) => Answer::Refused(
+                8,
+                line,
+                Part {
+                    start: from + a,
+                    end: from + e,
+                },
+            ),
+            Measured::Refused(n) => refuse(n, line),
+        },
+    }
+}
+
+// The token's text: 12 over the document's limit, 13 where a part of it is none of the document's, or not UTF-8; then 8 to 11,
+// then 14. The buffer keeps every byte but those of a text that is written.
+pub fn unescape(t: Token, doc: &[u8], out: &mut [u8]) -> Answer
+    ensures { λ r. ⌜ r ≡ unescapeOf (now (doc .entry)) t (now (out .entry)) .answer ⌝ }
+    ensures { λ _. ⌜ now (out .exit) ≡ unescapeOf (now (doc .entry)) t (now (out .entry)) .buffer ⌝ }
+{
+    if State::MAX_DOCUMENT < doc.len() {
+        return refuse(12, 0);
+    }
+    let w = words_of(t);
+    let line = t.line_number();
+    let reading = w.reading;
+    let text = w.text;
+    let indent = w.indent;
+    if !is_sound(doc, text) {
+        return refuse(13, line);
+    }
+    if !is_sound(doc, indent) {
+        return refuse(13, line);
+    }
+    let from = text.start;
+    let to = text.end;
+    let indent_from = indent.start;
+    let indent_to = indent.end;
+    deliver(
+        reading,
+        &doc[from..to],
+        &doc[indent_from..indent_to],
+        from,
+        line,
+        out,
+    )
+}
+
+// The part of a text that is plain, else the empty one.
+fn plain_part<'a>(reading: Reading, s: &'a [u8]) -> &'a [u8]
+    requires { ⌜ length (now s) ≤ 16777216 ⌝ }
+    ensures { λ r. ⌜ now r ≡ plainBy (startOf reading (now (s .entry))) (now (s .entry)) ⌝ }
+{
+    match start_of(reading, s) {
+        Start::Plain(a, e) => &s[a..e],
+        Start::Pieces(_, _) => &s[..0],
+    }
+}
+
+// The part of the document that unescaping answers for a token that is not rewritten, else an empty one.
+pub fn plain<'a>(t: Token, doc: &'a [u8]) -> &'a [u8]
+    ensures { λ r. ⌜ now r ≡ plainOf (now (doc .entry)) t ⌝ }
+{
+    if State::MAX_DOCUMENT < doc.len() {
+        return &doc[..0];
+    }
+    let w = words_of(t);
+    let reading = w.reading;
+    let text = w.text;
+    let indent = w.indent;
+    if !is_sound(doc, text) {
+        return &doc[..0];
+    }
+    if !is_sound(doc, indent) {
+        return &doc[..0];
+    }
+    let from = text.start;
+    let to = text.end;
+    plain_part(reading, &doc[from..to])
+}
