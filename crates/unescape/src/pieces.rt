@@ -20,6 +20,11 @@ ghost use Rattle.unescape.specs.Pieces.{
   nextOf,
 };
 
+// The braces of a code.
+const OPENING: u8 = b'{';
+
+const CLOSING: u8 = b'}';
+
 // What stands at the cursor: characters in quotes, a multiline value's first line, a later one, or the break after one.
 pub enum Spot {
     Quotes,
@@ -79,7 +84,7 @@ fn brace_len(s: &[u8]) -> usize
 {
     let mut i = 0;
     while i < s.len() {
-        if s[i] == b'}' {
+        if s[i] == CLOSING {
             return i;
         }
         if s[i] == b'"' {
@@ -99,7 +104,7 @@ fn brace_next(s: &[u8]) -> Next
     if s.len() <= n {
         return stop(Piece::Code(n + 2));
     }
-    if s[n] != b'}' {
+    if s[n] != CLOSING {
         return stop(Piece::Code(n + 2));
     }
     let code = code_of(&s[..n]);
@@ -121,7 +126,7 @@ fn escape_next(s: &[u8]) -> Next
     let First::Byte(b) = first_of(s) else {
         return stop(Piece::Refused(9));
     };
-    if b == b'{' {
+    if b == OPENING {
         return brace_next(&s[1..]);
     }
     let code = simple_of(b);
