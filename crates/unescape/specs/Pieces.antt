@@ -1,5 +1,5 @@
 -- Document 01, 'Unescaping', piece by piece: what stands at a cursor of a text, how many bytes are passed with it, and what
--- stands after them. proofs/Starts and proofs/Turns show that the pieces together are the text's meaning; the code is written by these.
+-- stands after them. proofs/Starts and proofs/Walking show that the pieces together are the meaning; the code is written by these.
 use Prim.Native.Nat.{ℕ, zero, suc, _+_, _-_, _*_, _≤_}
 use mathlib.Core.List.{List, [], _∷_, _++_}
 use mathlib.Core.Bool.{Bool, true, false, cond, not, _&&_, _||_}
