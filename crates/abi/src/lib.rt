@@ -7,6 +7,9 @@ ghost use Rattle.text.specs.Utf8.{utf8};
 ghost use Rattle.text.specs.Trimming.{dropped, trimmed};
 ghost use Rattle.batch.specs.Words.{freshIn};
 ghost use Rattle.batch.specs.Rows.{batchOf};
+ghost use Rattle.batch.specs.ParserWords.{freshParserIn};
+ghost use Rattle.batch.specs.Parsing.{parseBatchOf};
+ghost use Rattle.batch.specs.Texts.{textOf};
 ghost use Rattle.abi.specs.Lent.{whichOf, partIn};
 
 // Whether s is well-formed UTF-8.
@@ -61,4 +64,41 @@ pub extern "C" fn conl_tokenize(doc: &[u8], state: &mut [usize], rows: &mut [usi
     ensures { λ r. ⌜ now (rows .exit) ≡ batchOf (now (doc .entry)) (now (state .entry)) (now (rows .entry)) .rows ⌝ }
 {
     batch::tokenize(doc, state, rows)
+}
+
+// Writes the parser's fresh state at the front of the words: true; or false, with state unchanged, where there are fewer
+// than 213.
+#[no_mangle]
+pub extern "C" fn conl_fresh_parser(state: &mut [usize]) -> bool
+    ensures { λ r. ⌜ r ≡ leb 213 (length (now (state .entry))) ⌝ }
+    ensures { λ r. ⌜ now (state .exit) ≡ freshParserIn (now (state .entry)) ⌝ }
+{
+    batch::fresh_parser(state)
+}
+
+// The same as conl_tokenize with the parser's answers and state; it stops before a 15 too, and the next call returns it.
+#[no_mangle]
+pub extern "C" fn conl_parse(doc: &[u8], state: &mut [usize], rows: &mut [usize]) -> usize
+    ensures { λ r. ⌜ r ≡ parseBatchOf (now (doc .entry)) (now (state .entry)) (now (rows .entry)) .result ⌝ }
+    ensures { λ r. ⌜ now (state .exit) ≡ parseBatchOf (now (doc .entry)) (now (state .entry)) (now (rows .entry)) .words ⌝ }
+    ensures { λ r. ⌜ now (rows .exit) ≡ parseBatchOf (now (doc .entry)) (now (state .entry)) (now (rows .entry)) .rows ⌝ }
+{
+    batch::parse(doc, state, rows)
+}
+
+// Unescapes the token of a row, and writes the answer at the front of its words: 0, 0, 0, start and end of a plain part; 1, 0,
+// 0, 0 and the length of the text that out now begins with; 2, a refusal's number, its line, start and end of the part that it
+// shows. False, with nothing written, where the row is no token's or there are fewer than five words for the answer.
+#[no_mangle]
+pub extern "C" fn conl_unescape(
+    doc: &[u8],
+    row: &[usize],
+    out: &mut [u8],
+    answer: &mut [usize],
+) -> bool
+    ensures { λ r. ⌜ r ≡ textOf (now (doc .entry)) (now (row .entry)) (now (out .entry)) (now (answer .entry)) .result ⌝ }
+    ensures { λ r. ⌜ now (out .exit) ≡ textOf (now (doc .entry)) (now (row .entry)) (now (out .entry)) (now (answer .entry)) .buffer ⌝ }
+    ensures { λ r. ⌜ now (answer .exit) ≡ textOf (now (doc .entry)) (now (row .entry)) (now (out .entry)) (now (answer .entry)) .words ⌝ }
+{
+    batch::unescape(doc, row, out, answer)
 }

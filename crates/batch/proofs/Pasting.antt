@@ -1,4 +1,4 @@
--- Words written over others from a place on: none, one more of a list, and next to those that stand at the front.
+-- Writing over a list from a place on: none, one more, one more of a list, and next to those that stand at the front.
 use Prim.Native.Nat.{ℕ, _+_, _<_}
 use mathlib.Core.Path.{_≡_}
 use mathlib.Core.List.{List, [], _∷_, _++_, append-nil, append-assoc}
@@ -13,13 +13,18 @@ pub pasted-none : (n : ℕ) (w : List ℕ) → w ≡ pasted [] n w
 unfolding pasted
 pasted-none n w = rw (append-nil, add-zero, take-append-drop)
 
+-- one more after the i that are written
+pub written-more : {A : Type 0} (p l : List A) (a z : A) (i : ℕ) → length p ≡ i → i < length l
+    → set (p ++ drop i l) i a ≡ p ++ (a ∷ []) ++ drop (i + 1) l
+written-more p l a z i e h = rw (drop-cons l i z h, set-at p (getD l i z) _ a i e, append-snoc, add-one)
+
 -- one word more after the k of s
 pub pasted-more : (s w : List ℕ) (n k a : ℕ) → length s ≡ k → n + k < length w → set (pasted s n w) (n + k) a ≡ pasted (s ++ (a ∷ [])) n w
 unfolding pasted
 pasted-more s w n k a e h =
     let l : length (take n w ++ s) ≡ n + k = rw (length-append, length-take-le n w (omega arith), e) in
     let m : n + length (s ++ (a ∷ [])) ≡ n + k + 1 = rw length-append (omega arith) in
-    rw (m, e, drop-cons w (n + k) 0 h, set-at (take n w ++ s) (getD w (n + k) 0) _ a (n + k) l, ← append-assoc, append-snoc, add-one)
+    rw (m, e, written-more (take n w ++ s) w a 0 (n + k) l h, append-assoc (take n w) s (a ∷ []))
 
 -- one word more of s
 pub pasted-next : (s w : List ℕ) (n i : ℕ) → i < length s → n + i < length w

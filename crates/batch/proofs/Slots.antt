@@ -5,13 +5,13 @@ use mathlib.Core.List.{List, [], _∷_, _++_, append-assoc}
 use native.Mathlib.Numerals.{add-one}
 use native.Mathlib.Omega.{arith}
 use lib.ListN.{length, take, drop, getD, set, length-append}
-use lib.Seq.{drop-cons, set-at, append-snoc, getD-drop, take-suc, length-take-le}
+use lib.Seq.{getD-drop, take-suc, length-take-le}
 use Rattle.text.specs.declared.bytes.Part.{Part}
 use Rattle.tokenizer.specs.declared.state.Held.{Held}
 use Rattle.tokenizer.specs.declared.state.Held.the-variants.{Nothing, At}
 use Rattle.tokenizer.specs.declared.state.State.{State}
 use Rattle.batch.specs.Words.{pasted, heldWords, partWords, frontWords, wordsOf, partsIn, stateIn}
-use Rattle.batch.proofs.Pasting.{pasted-more, pasted-front, pasted-after}
+use Rattle.batch.proofs.Pasting.{written-more, pasted-more, pasted-front, pasted-after}
 
 parts-length : (n : ℕ) (w : List ℕ) → length (partsIn n w) ≡ n
 unfolding partsIn
@@ -37,10 +37,9 @@ pub read-more : (zs : List Part) (z : Part) (w : List ℕ) (i : ℕ) → i < len
     → set (partsIn i (drop 9 w) ++ drop i zs) i (record { start = getD w (9 + 2 * i) 0; end = getD w (10 + 2 * i) 0 })
     ≡ partsIn (i + 1) (drop 9 w) ++ drop (i + 1) zs
 read-more zs z w i h =
-    let p = partsIn i (drop 9 w) in
     let j : 9 + (2 * i + 1) ≡ 10 + 2 * i = omega arith in
-    rw (drop-cons zs i z h, set-at p (getD zs i z) _ _ i (parts-length i (drop 9 w)))
-    (rw (add-one, parts-more i (drop 9 w), getD-drop 9 w (2 * i) 0, getD-drop 9 w (2 * i + 1) 0, j, append-snoc))
+    rw (written-more (partsIn i (drop 9 w)) zs _ z i (parts-length i (drop 9 w)) h)
+    (rw (add-one, parts-more i (drop 9 w), getD-drop 9 w (2 * i) 0, getD-drop 9 w (2 * i + 1) 0, j))
 
 part-words-append : (l m : List Part) → partWords (l ++ m) ≡ partWords l ++ partWords m
 unfolding partWords
@@ -76,10 +75,16 @@ front-9 : (s : State) → length (frontWords s) ≡ 9
 unfolding frontWords
 front-9 s = rw (← held-words (s .held) (s .depth))
 
+slot-words-128 : (s : State) → length (s .indents) ≡ 64 → length (partWords (s .indents)) ≡ 128
+slot-words-128 s e = rw (part-words-length, e)
+
+pub words-137 : (s : State) → length (s .indents) ≡ 64 → length (wordsOf s) ≡ 137
+unfolding wordsOf
+words-137 s e = rw (length-append, front-9, slot-words-128 s e)
+
 -- the front, then the slots
 pub both-written : (s : State) (w : List ℕ) → length (s .indents) ≡ 64
     → pasted (partWords (s .indents)) 9 (pasted (frontWords s) 0 w) ≡ wordsOf s ++ drop 137 w
 unfolding wordsOf
 both-written s w e =
-    let l : length (partWords (s .indents)) ≡ 128 = rw (part-words-length, e) in
-    rw (pasted-front, front-9, pasted-after (frontWords s) (partWords (s .indents)) w 9 (front-9 s), l)
+    rw (pasted-front, front-9, pasted-after (frontWords s) (partWords (s .indents)) w 9 (front-9 s), slot-words-128 s e)

@@ -1,2 +1,5 @@
 pub mod Words
 pub mod Rows
+pub mod ParserWords
+pub mod Parsing
+pub mod Texts

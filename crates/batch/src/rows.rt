@@ -13,14 +13,14 @@ ghost use Prim.Native.Nat.{_/_, _^_, _<_};
 ghost use lib.ListN.{length};
 ghost use Rattle.tokenizer.specs.Token.{bare, worded, tokenValues, valuesOf};
 ghost use Rattle.tokenizer.specs.Lists.{isEnd};
-ghost use Rattle.batch.specs.Rows.{rowOf, rowsIn, taken, batchOf};
+ghost use Rattle.batch.specs.Rows.{rowOf, rowsIn, taken, tokenizing, batchOf};
 
 // The refusals before the first step: 2^63, which is above any count of rows, and 12 or 15.
-const TOO_LONG: usize = 0x8000_0000_0000_000C;
+pub(crate) const TOO_LONG: usize = 0x8000_0000_0000_000C;
 
-const UNFIT: usize = 0x8000_0000_0000_000F;
+pub(crate) const UNFIT: usize = 0x8000_0000_0000_000F;
 
-fn bare_row(number: usize, line: usize) -> [usize; 7]
+pub(crate) fn bare_row(number: usize, line: usize) -> [usize; 7]
     ensures { λ r. ⌜ r ≡ rowOf (bare number line) ⌝ }
 {
     [number, line, 0, 0, 0, 0, 0]
@@ -32,7 +32,7 @@ fn worded_row(number: usize, line: usize, p: Part) -> [usize; 7]
     [number, line, p.start, p.end, 0, 0, 0]
 }
 
-fn token_row(t: Token) -> [usize; 7]
+pub(crate) fn token_row(t: Token) -> [usize; 7]
     ensures { λ r. ⌜ r ≡ rowOf (tokenValues t) ⌝ }
 {
     match t {
@@ -81,9 +81,9 @@ struct Done {
 
 // Takes answers until End comes or no room is left for a row. The state that comes with End is not taken.
 fn take_rows(doc: &[u8], s: State, rows: &mut [usize]) -> Done
-    ensures { λ r. ⌜ r .count ≡ length (taken (length (now (rows .entry)) / 7) (now (doc .entry)) s .answers) ⌝ }
-    ensures { λ r. ⌜ r .state ≡ taken (length (now (rows .entry)) / 7) (now (doc .entry)) s .state ⌝ }
-    ensures { λ r. ⌜ now (rows .exit) ≡ rowsIn (taken (length (now (rows .entry)) / 7) (now (doc .entry)) s .answers) (now (rows .entry)) ⌝ }
+    ensures { λ r. ⌜ r .count ≡ length (taken (tokenizing (now (doc .entry))) (length (now (rows .entry)) / 7) s .answers) ⌝ }
+    ensures { λ r. ⌜ r .state ≡ taken (tokenizing (now (doc .entry))) (length (now (rows .entry)) / 7) s .state ⌝ }
+    ensures { λ r. ⌜ now (rows .exit) ≡ rowsIn (taken (tokenizing (now (doc .entry))) (length (now (rows .entry)) / 7) s .answers) (now (rows .entry)) ⌝ }
 {
     let room = rows.len() / 7;
     let mut state = s;

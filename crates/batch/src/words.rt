@@ -83,7 +83,7 @@ pub(crate) fn load(w: &[usize]) -> State
     }
 }
 
-fn flag_of(b: bool) -> usize
+pub(crate) fn flag_of(b: bool) -> usize
     ensures { λ r. ⌜ r ≡ flag b ⌝ }
 {
     if b { 1 } else { 0 }

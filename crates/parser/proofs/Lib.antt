@@ -1,3 +1,4 @@
 pub mod Sections
 pub mod Steps
 pub mod Examples
+pub mod Valued

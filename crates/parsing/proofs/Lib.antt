@@ -3,3 +3,4 @@ pub mod Rulings
 pub mod Sections
 pub mod Steps
 pub mod Claimed
+pub mod Rests

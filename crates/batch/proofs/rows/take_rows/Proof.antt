@@ -3,17 +3,17 @@ use Prim.Native.Nat.{_-_}
 use mathlib.Core.Path.{_≡_, refl, sym, ap, _∙_}
 use native.Mathlib.Omega.{arith}
 use lib.ListN.{length}
-use Rattle.tokenizer.specs.Step.{stepOf}
 use Rattle.tokenizer.specs.Lists.{isEnd}
 use Rattle.tokenizer.proofs.Numbers.{number-le}
 use Rattle.tokenizer.proofs.Valued.{values-injective}
+use Rattle.batch.specs.Rows.{tokenizing}
 use Rattle.batch.proofs.Taking.{Turn, start, next, at-end, full}
 use borrow.Author.Needs.{needs}
 use Rattle.batch.proofs.rows.take_rows.Statement.{statement}
 use Rattle.batch.proofs.rows.take_rows.Tie as tie
 
 abbrev Inv-loop : tie.InvT-loop
-Inv-loop doc rows₀ room state₀ n₀ rows state n = (length rows ≡ length rows₀) × Turn doc rows₀ rows room n state₀ state
+Inv-loop doc rows₀ room state₀ n₀ rows state n = (length rows ≡ length rows₀) × Turn (tokenizing doc) rows₀ rows room n state₀ state
 
 abbrev μ-loop : tie.MeasureT-loop
 μ-loop doc rows₀ room state₀ n₀ rows state n = room - n
@@ -21,7 +21,7 @@ abbrev μ-loop : tie.MeasureT-loop
 -- what `is_end` tells is told of the rule's own answer
 tested : (c : tie.After-is-end Inv-loop μ-loop)
     → let l = c .before .before .before .before in
-    c .is-end .result ≡ isEnd (stepOf (l .before .before .before .args .doc .now) (l .loop .state) .answer)
+    c .is-end .result ≡ tokenizing (l .before .before .before .args .doc .now) .stops (l .loop .state)
 tested c = c .is-end .ensures ∙ ap isEnd (values-injective _ _ (c .before .before .step .ensures .0))
 
 loop-holds : tie.Need-loop-holds Inv-loop μ-loop

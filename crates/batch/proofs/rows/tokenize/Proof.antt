@@ -1,14 +1,14 @@
 -- `tokenize` takes the branches of `batchOf` (proofs/Batches); the state that is stored has as many slots as the one that was loaded.
-use Prim.Native.Nat.{ℕ}
-use mathlib.Core.Path.{_≡_, sym, ap, _∙_}
-use mathlib.Core.Bool.{true}
+use mathlib.Core.Path.{_≡_, sym, _∙_}
+use mathlib.Core.Bool.{true, and-false}
 use borrow.Author.Tests.{not-true, not-false}
 use lib.ListN.{length}
-use Rattle.tokenizer.specs.declared.state.State.{State}
+use Rattle.tokenizer.proofs.Kept.{step-slots}
 use Rattle.batch.specs.Words.{readable}
+use Rattle.batch.specs.Rows.{tokenizing, batchOf}
 use Rattle.batch.proofs.Slots.{slots-64}
-use Rattle.batch.proofs.Taking.{taken-slots}
-use Rattle.batch.proofs.Batches.{has-137, over, unreadable, unfit, took, promised}
+use Rattle.batch.proofs.Taking.{taken-keeps}
+use Rattle.batch.proofs.Batches.{has-137, over, unfit, took, promised}
 use borrow.Author.Needs.{needs}
 use Rattle.batch.proofs.rows.tokenize.Statement.{statement}
 use Rattle.batch.proofs.rows.tokenize.Tie as tie
@@ -17,7 +17,8 @@ read : (c : tie.Else2) → readable (c .before .before .before .before .before .
 read c = sym (c .before .is-readable .ensures) ∙ not-false _ (c .if2 .left)
 
 returns : tie.Need-returns
-returns c = promised (over _ _ _ (c .if1 .taken))
+unfolding batchOf
+returns c = promised (over _ _ _ _ _ (c .if1 .taken))
 
 is-readable-requires : tie.Need-is-readable-requires
 is-readable-requires c κs = search needs
@@ -26,8 +27,10 @@ same-length : tie.Need-same-length
 same-length c = search needs
 
 returns-2 : tie.Need-returns-2
+unfolding batchOf
 returns-2 c =
-    promised (unreadable _ _ _ (c .before .before .before .if1 .left) (sym (c .before .is-readable .ensures) ∙ not-true _ (c .if2 .taken)))
+    let e = sym (c .before .is-readable .ensures) ∙ not-true _ (c .if2 .taken) in
+    promised (unfit _ _ _ _ _ (c .before .before .before .if1 .left) (rw e))
 
 load-requires : tie.Need-load-requires
 load-requires c κs = has-137 _ (read (c .before))
@@ -39,10 +42,12 @@ same-length-2 : tie.Need-same-length-2
 same-length-2 c = search needs
 
 returns-3 : tie.Need-returns-3
+unfolding batchOf
 returns-3 c =
     let s = c .before .before in
     let e = sym (c .before .fits2 .ensures) ∙ not-true _ (c .if3 .taken) in
-    promised (unfit _ _ _ (s .before .before .before .before .before .if1 .left) (rw (s .load .ensures) at e))
+    let f = rw (s .load .ensures) at e in
+    promised (unfit _ _ _ _ _ (s .before .before .before .before .before .if1 .left) (rw (f, and-false)))
 
 take-rows-requires : tie.Need-take-rows-requires
 take-rows-requires c κs = search needs
@@ -51,8 +56,9 @@ store-requires : tie.Need-store-requires
 store-requires c κs =
     let t = c .before .before .before .before in
     let s = t .before .before .before .before in
-    let slots : State → ℕ = λ x. length (x .indents) in
-    (has-137 _ (read (s .before .before)), ap slots (t .take-rows .ensures .1 .0) ∙ taken-slots _ _ _ ∙ ap slots (s .load .ensures) ∙ slots-64 _)
+    let e : length (s .load .result .indents) ≡ 64 = rw (s .load .ensures) (slots-64 _) in
+    let k = taken-keeps (tokenizing _) (λ x. length (x .indents) ≡ 64) (λ x h. step-slots _ x ∙ h) _ _ e in
+    (has-137 _ (read (s .before .before)), rw (t .take-rows .ensures .1 .0) k)
 
 same-length-3 : tie.Need-same-length-3
 same-length-3 c = search needs
@@ -61,13 +67,14 @@ same-length-4 : tie.Need-same-length-4
 same-length-4 c = search needs
 
 returns-4 : tie.Need-returns-4
+unfolding batchOf
 returns-4 c =
     let m = c .before .before in
     let t = m .before .before .before .before .before in
     let s = t .before .before .before .before in
     let k = s .before .before in
     let f = sym (t .before .before .before .fits2 .ensures) ∙ not-false _ (t .before .before .if3 .left) in
-    let q = promised (took _ _ _ (k .before .before .before .if1 .left) (read k) (rw (s .load .ensures) at f)) in
+    let q = promised (took _ _ _ _ (k .before .before .before .if1 .left) (read k) (rw (s .load .ensures) at f)) in
     let r = rw (s .load .ensures) at (t .take-rows .ensures) in
     (r .0 ∙ q .0, (rw (r .1 .0) at (m .store .ensures) ∙ q .1 .0, r .1 .1 ∙ q .1 .1))
 
