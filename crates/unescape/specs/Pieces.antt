@@ -37,13 +37,17 @@ use Rattle.unescape.specs.declared.words.Reading.the-variants.{AsIs, Ent
 use Rattle.unescape.specs.declared.words.Start.{Start}
 use Rattle.unescape.specs.declared.words.Start.the-variants.{Plain, Pieces}
 
--- neither `"` nor `\`
-abbrev pub isBare : ℕ → Bool
-isBare b = not (eqb b 34 || eqb b 92)
+-- neither `"` nor the byte c
+abbrev pub isBefore : ℕ → ℕ → Bool
+isBefore c b = not (eqb b 34 || eqb b c)
 
--- neither `}` nor `"`
+-- a bare byte is neither `"` nor `\`
+abbrev pub isBare : ℕ → Bool
+isBare b = isBefore 92 b
+
+-- a brace stops at `}` or `"`
 abbrev pub inBrace : ℕ → Bool
-inBrace b = not (eqb b 125 || eqb b 34)
+inBrace b = isBefore 125 b
 
 abbrev pub stopped : Piece → Next
 stopped p = record { piece = p; pass = 0; spot = Quotes }

@@ -8,8 +8,7 @@ ghost use Prim.Native.Nat.{_≤_};
 ghost use lib.ListN.{length};
 ghost use Rattle.text.specs.Bytes.{countWhile};
 ghost use Rattle.unescape.specs.Pieces.{
-  isBare,
-  inBrace,
+  isBefore,
   stopped,
   braceNext,
   escapeNext,
@@ -61,33 +60,16 @@ fn stop(p: Piece) -> Next
     }
 }
 
-// How many bytes stand before the first `"` or `\`.
-pub(crate) fn bare_len(s: &[u8]) -> usize
-    ensures { λ r. ⌜ r ≡ countWhile isBare (now (s .entry)) ⌝ }
+// How many bytes stand before the first `"` or `stop`.
+pub(crate) fn len_before(stop: u8, s: &[u8]) -> usize
+    ensures { λ r. ⌜ r ≡ countWhile (isBefore stop) (now (s .entry)) ⌝ }
 {
     let mut i = 0;
     while i < s.len() {
         if s[i] == b'"' {
             return i;
         }
-        if s[i] == b'\\' {
-            return i;
-        }
-        i += 1;
-    }
-    i
-}
-
-// How many bytes stand before the first `}` or `"`.
-fn brace_len(s: &[u8]) -> usize
-    ensures { λ r. ⌜ r ≡ countWhile inBrace (now (s .entry)) ⌝ }
-{
-    let mut i = 0;
-    while i < s.len() {
-        if s[i] == CLOSING {
-            return i;
-        }
-        if s[i] == b'"' {
+        if s[i] == stop {
             return i;
         }
         i += 1;
@@ -100,7 +82,7 @@ fn brace_next(s: &[u8]) -> Next
     requires { ⌜ length (now s) ≤ 16777216 ⌝ }
     ensures { λ r. ⌜ r ≡ braceNext (now (s .entry)) ⌝ }
 {
-    let n = brace_len(s);
+    let n = len_before(CLOSING, s);
     if s.len() <= n {
         return stop(Piece::Code(n + 2));
     }
@@ -154,7 +136,7 @@ fn quoted_next(s: &[u8]) -> Next
     if b != b'"' {
         return Next {
             piece: Piece::Run(0),
-            pass: bare_len(s),
+            pass: len_before(b'\\', s),
             spot: Spot::Quotes,
         };
     }

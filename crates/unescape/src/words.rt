@@ -1,6 +1,6 @@
 // A token's text, and how it is read.
 use crate::pieces::Spot;
-use crate::pieces::bare_len;
+use crate::pieces::len_before;
 use text::First;
 use text::Part;
 use text::first_of;
@@ -97,7 +97,7 @@ fn entry_start(s: &[u8]) -> Start
     if b != b'"' {
         return Start::Plain(0, s.len());
     }
-    let end = 1 + bare_len(&s[1..]);
+    let end = 1 + len_before(b'\\', &s[1..]);
     if end + 1 != s.len() {
         return Start::Pieces(1, Spot::Quotes);
     }

@@ -36,11 +36,11 @@ escape-next-requires c κs = search needs
 returns-2 : tie.Need-returns-2
 returns-2 c = rw from at (c .escape-next .ensures) ∙ sym (quoted-escape _ _ (sym (c .before .before .before .before .before .before .first-of .ensures) ∙ c .before .before .before .before .b .given .1) (c .before .before .if1 .taken))
 
-bare-len-requires : tie.Need-bare-len-requires
-bare-len-requires c κs = search needs
+len-before-requires : tie.Need-len-before-requires
+len-before-requires c κs = search needs
 
 returns-3 : tie.Need-returns-3
-returns-3 c = rw (c .bare-len .ensures) (sym (quoted-run _ _ (sym (c .before .before .before .before .before .before .first-of .ensures) ∙ c .before .before .before .before .b .given .1) (c .before .before .if1 .left) (c .before .if2 .taken)))
+returns-3 c = rw (c .len-before .ensures) (sym (quoted-run _ _ (sym (c .before .before .before .before .before .before .first-of .ensures) ∙ c .before .before .before .before .b .given .1) (c .before .before .if1 .left) (c .before .if2 .taken)))
 
 stop-requires-2 : tie.Need-stop-requires-2
 stop-requires-2 c κs = search needs
@@ -68,7 +68,7 @@ quoted-next-spec =
     part-escape-next-end
     escape-next-requires
     returns-2
-    bare-len-requires
+    len-before-requires
     returns-3
     stop-requires-2
     stop-requires-3

@@ -26,35 +26,35 @@ returns c = sym (entry-none _ (sym (c .before .before .first-of .ensures) ∙ c 
 returns-2 : tie.Need-returns-2
 returns-2 c = sym (entry-bare _ _ (sym (c .before .before .before .before .first-of .ensures) ∙ c .before .before .b .given .1) (c .if1 .taken))
 
-sub-bare-len : tie.Need-sub-bare-len
-sub-bare-len c = some _ _ (sym (c .before .before .before .before .first-of .ensures) ∙ c .before .before .b .given .1)
+sub-len-before : tie.Need-sub-len-before
+sub-len-before c = some _ _ (sym (c .before .before .before .before .first-of .ensures) ∙ c .before .before .b .given .1)
 
-part-bare-len-start : tie.Need-part-bare-len-start
-part-bare-len-start c = some _ _ (sym (c .before .before .before .before .first-of .ensures) ∙ c .before .before .b .given .1)
+part-len-before-start : tie.Need-part-len-before-start
+part-len-before-start c = some _ _ (sym (c .before .before .before .before .first-of .ensures) ∙ c .before .before .b .given .1)
 
-part-bare-len-end : tie.Need-part-bare-len-end
-part-bare-len-end c = search needs
+part-len-before-end : tie.Need-part-len-before-end
+part-len-before-end c = search needs
 
-bare-len-requires : tie.Need-bare-len-requires
-bare-len-requires c κs = search needs
+len-before-requires : tie.Need-len-before-requires
+len-before-requires c κs = search needs
 
 add-end : tie.Need-add-end
-add-end c = let s = c .before .before .before .before .before .before .before .before .args .s .now in omega (arith, rw from at (c .bare-len .ensures), count-le isBare (drop 1 s), length-drop 1 s)
+add-end c = let s = c .before .before .before .before .before .before .before .before .args .s .now in omega (arith, rw from at (c .len-before .ensures), count-le isBare (drop 1 s), length-drop 1 s)
 
 add-if2 : tie.Need-add-if2
-add-if2 c = let s = c .before .before .before .before .before .before .before .before .args .s .now in omega (arith, rw from at (c .bare-len .ensures), count-le isBare (drop 1 s), length-drop 1 s)
+add-if2 c = let s = c .before .before .before .before .before .before .before .before .args .s .now in omega (arith, rw from at (c .len-before .ensures), count-le isBare (drop 1 s), length-drop 1 s)
 
 returns-3 : tie.Need-returns-3
-returns-3 c = sym (entry-pieces _ _ (sym (c .before .before .before .before .before .before .before .first-of .ensures) ∙ c .before .before .before .before .before .b .given .1) (c .before .before .before .if1 .left) _ (rw from at (c .before .bare-len .ensures)) (c .if2 .taken))
+returns-3 c = sym (entry-pieces _ _ (sym (c .before .before .before .before .before .before .before .first-of .ensures) ∙ c .before .before .before .before .before .b .given .1) (c .before .before .before .if1 .left) _ (rw from at (c .before .len-before .ensures)) (c .if2 .taken))
 
 shared-slice-read-if3 : tie.Need-shared-slice-read-if3
 shared-slice-read-if3 c = search needs
 
 returns-4 : tie.Need-returns-4
-returns-4 c = sym (entry-last _ _ (sym (c .before .before .before .before .before .before .before .before .before .first-of .ensures) ∙ c .before .before .before .before .before .before .before .b .given .1) (c .before .before .before .before .before .if1 .left) _ (rw from at (c .before .before .before .bare-len .ensures)) (c .before .before .if2 .left) ∙ rw (eq-eqb _ _ (c .if3 .taken)))
+returns-4 c = sym (entry-last _ _ (sym (c .before .before .before .before .before .before .before .before .before .first-of .ensures) ∙ c .before .before .before .before .before .before .before .b .given .1) (c .before .before .before .before .before .if1 .left) _ (rw from at (c .before .before .before .len-before .ensures)) (c .before .before .if2 .left) ∙ rw (eq-eqb _ _ (c .if3 .taken)))
 
 returns-5 : tie.Need-returns-5
-returns-5 c = sym (entry-last _ _ (sym (c .before .before .before .before .before .before .before .before .before .first-of .ensures) ∙ c .before .before .before .before .before .before .before .b .given .1) (c .before .before .before .before .before .if1 .left) _ (rw from at (c .before .before .before .bare-len .ensures)) (c .before .before .if2 .left) ∙ rw (ne-eqb _ _ (c .if3 .left)))
+returns-5 c = sym (entry-last _ _ (sym (c .before .before .before .before .before .before .before .before .before .first-of .ensures) ∙ c .before .before .before .before .before .before .before .b .given .1) (c .before .before .before .before .before .if1 .left) _ (rw from at (c .before .before .before .len-before .ensures)) (c .before .before .if2 .left) ∙ rw (ne-eqb _ _ (c .if3 .left)))
 
 pub entry-start-spec : {M : Type 1} → statement M
 entry-start-spec =
@@ -65,10 +65,10 @@ entry-start-spec =
     enum-told
     returns
     returns-2
-    sub-bare-len
-    part-bare-len-start
-    part-bare-len-end
-    bare-len-requires
+    sub-len-before
+    part-len-before-start
+    part-len-before-end
+    len-before-requires
     add-end
     add-if2
     returns-3
