@@ -4,19 +4,7 @@ use mathlib.Core.Path.{_≡_}
 use mathlib.Core.List.{List, [], _∷_}
 use lib.ListN.{length}
 use Rattle.tokenizer.specs.declared.token.Token.{Token}
-use Rattle.tokenizer.specs.declared.token.Token.the-variants.{
-  Newline,
-  Comment,
-  Indent,
-  Outdent,
-  ListItem,
-  MapKey,
-  Value,
-  MultilineHint,
-  MultilineValue,
-  NoValue,
-}
-use Rattle.reading.specs.Claims.{Text}
+use Rattle.reading.specs.Claims.{PartsFit}
 use Rattle.parser.specs.Step.{fresh}
 use Rattle.parser.specs.Lists.{Parses, ParseList, parse}
 use Rattle.parser.specs.declared.ruling.Answer.{Answer}
@@ -41,16 +29,7 @@ abbrev pub Lists : Type 0
 Lists = (d : List ℕ) → TheList d
 
 abbrev pub TokenFits : List ℕ → Token → Type 0
-TokenFits d (Newline l) = Unit {0}
-TokenFits d (Comment l p) = Text d p
-TokenFits d (Indent l) = Unit {0}
-TokenFits d (Outdent l) = Unit {0}
-TokenFits d (ListItem l) = Unit {0}
-TokenFits d (MapKey l p) = Text d p
-TokenFits d (Value l p) = Text d p
-TokenFits d (MultilineHint l p) = Text d p
-TokenFits d (MultilineValue l i p) = Text d i × Text d p
-TokenFits d (NoValue l) = Unit {0}
+TokenFits d t = PartsFit (Unit {0}) d t
 
 -- an answer of a parsing: a token whose parts lie within the document and are UTF-8, or a refusal 1 to 7
 abbrev pub Fits : List ℕ → Answer → Type 0

@@ -56,17 +56,21 @@ pub record Text (d : List ℕ) (p : Part) : Type 0 where
   pub within : Within d p
   pub valid : utf8 (bytesOf d p) ≡ true
 
+-- the parts of a token fit; N is asked of a NoValue, which the tokenizer never gives
+abbrev pub PartsFit : Type 0 → List ℕ → Token → Type 0
+PartsFit N d (Newline l) = Unit {0}
+PartsFit N d (Comment l p) = Text d p
+PartsFit N d (Indent l) = Unit {0}
+PartsFit N d (Outdent l) = Unit {0}
+PartsFit N d (ListItem l) = Unit {0}
+PartsFit N d (MapKey l p) = Text d p
+PartsFit N d (Value l p) = Text d p
+PartsFit N d (MultilineHint l p) = Text d p
+PartsFit N d (MultilineValue l i p) = Text d i × Text d p
+PartsFit N d (NoValue l) = N
+
 abbrev pub TokenFits : List ℕ → Token → Type 0
-TokenFits d (Newline l) = Unit {0}
-TokenFits d (Comment l p) = Text d p
-TokenFits d (Indent l) = Unit {0}
-TokenFits d (Outdent l) = Unit {0}
-TokenFits d (ListItem l) = Unit {0}
-TokenFits d (MapKey l p) = Text d p
-TokenFits d (Value l p) = Text d p
-TokenFits d (MultilineHint l p) = Text d p
-TokenFits d (MultilineValue l i p) = Text d i × Text d p
-TokenFits d (NoValue l) = ⊥
+TokenFits d t = PartsFit ⊥ d t
 
 -- an answer of a reading: a token whose parts lie within the document and are UTF-8, or a refusal 1, 2 or 3
 abbrev pub Fits : List ℕ → Answer → Type 0
