@@ -10,6 +10,7 @@ ghost use Rattle.batch.specs.Rows.{batchOf};
 ghost use Rattle.batch.specs.ParserWords.{freshParserIn};
 ghost use Rattle.batch.specs.Parsing.{parseBatchOf};
 ghost use Rattle.batch.specs.Texts.{textOf};
+ghost use Rattle.batch.specs.Found.{foundIn};
 ghost use Rattle.abi.specs.Lent.{whichOf, partIn};
 
 // Whether s is well-formed UTF-8.
@@ -101,4 +102,15 @@ pub extern "C" fn conl_unescape(
     ensures { λ r. ⌜ now (answer .exit) ≡ textOf (now (doc .entry)) (now (row .entry)) (now (out .entry)) (now (answer .entry)) .words ⌝ }
 {
     batch::unescape(doc, row, out, answer)
+}
+
+// Looks up the first top-level key with the bytes of wanted, and writes the answer at the front of its words: 0, 0, 0, 0, 0 for
+// nothing; 1, 0, the key's line, start and end of its entry; 2, a refusal's number, its line, 0, 0. False, with nothing written,
+// where there are fewer than five words for the answer.
+#[no_mangle]
+pub extern "C" fn conl_look_up(doc: &[u8], wanted: &[u8], answer: &mut [usize]) -> bool
+    ensures { λ r. ⌜ r ≡ leb 5 (length (now (answer .entry))) ⌝ }
+    ensures { λ r. ⌜ now (answer .exit) ≡ foundIn (now (doc .entry)) (now (wanted .entry)) (now (answer .entry)) ⌝ }
+{
+    batch::look_up(doc, wanted, answer)
 }

@@ -3,3 +3,4 @@ pub mod Rows
 pub mod ParserWords
 pub mod Parsing
 pub mod Texts
+pub mod Found

@@ -32,7 +32,8 @@ fn worded_row(number: usize, line: usize, p: Part) -> [usize; 7]
     [number, line, p.start, p.end, 0, 0, 0]
 }
 
-pub(crate) fn token_row(t: Token) -> [usize; 7]
+// The row of a token.
+pub fn token_row(t: Token) -> [usize; 7]
     ensures { λ r. ⌜ r ≡ rowOf (tokenValues t) ⌝ }
 {
     match t {

@@ -2,13 +2,15 @@
 use Rattle.tokenizer.proofs.Examples as tokenizer
 use Rattle.parser.proofs.Examples as parser
 use Rattle.unescape.proofs.Examples as unescape
+use Rattle.rows.proofs.Examples as rows
 use Rattle.examples.specs.Rows.{Rows}
 
-pub rows : Rows
-rows = record {
+pub computed : Rows
+computed = record {
   no-tokens = tokenizer.empty;
   no-answers = parser.empty;
   listing-answers = parser.listing;
+  listing-bytes = rows.listed;
   four-quotes = tokenizer.four-quotes;
   hint-tokens = tokenizer.hint-then-comment;
   hint-answers = parser.hint-then-comment;

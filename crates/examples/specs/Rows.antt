@@ -7,6 +7,7 @@ use Rattle.tokenizer.specs.declared.token.Token.the-variants as token
 use Rattle.tokenizer.specs.declared.state.Answer.the-variants as came
 use Rattle.parser.specs.Lists.{parse}
 use Rattle.parser.specs.declared.ruling.Answer.the-variants as answer
+use Rattle.rows.specs.Listing.{listingOf}
 use Rattle.unescape.specs.Meaning.{bytes, code, refused, entryMeaning, blockMeaning}
 use Prim.Native.Nat.{ℕ}
 
@@ -27,6 +28,17 @@ pub record Rows : Type 0 where
       ∷ answer.Token (token.Value 2 (part 6 9))
       ∷ answer.Token (token.Newline 2)
       ∷ answer.Token (token.Outdent 3)
+      ∷ []
+  -- and the listing itself, a line of it on each line here
+  pub listing-bytes : listingOf (97 ∷ 10 ∷ 32 ∷ 32 ∷ 61 ∷ 32 ∷ 34 ∷ 120 ∷ 34 ∷ 10 ∷ [])
+      ≡ 108 ∷ 105 ∷ 110 ∷ 101 ∷ 32 ∷ 107 ∷ 105 ∷ 110 ∷ 100 ∷ 32 ∷ 115 ∷ 116 ∷ 97 ∷ 114 ∷ 116 ∷ 32 ∷ 101 ∷ 110 ∷ 100 ∷ 10
+      ∷ 49 ∷ 32 ∷ 54 ∷ 32 ∷ 48 ∷ 32 ∷ 49 ∷ 10
+      ∷ 49 ∷ 32 ∷ 49 ∷ 32 ∷ 48 ∷ 32 ∷ 48 ∷ 10
+      ∷ 50 ∷ 32 ∷ 51 ∷ 32 ∷ 48 ∷ 32 ∷ 48 ∷ 10
+      ∷ 50 ∷ 32 ∷ 53 ∷ 32 ∷ 48 ∷ 32 ∷ 48 ∷ 10
+      ∷ 50 ∷ 32 ∷ 55 ∷ 32 ∷ 54 ∷ 32 ∷ 57 ∷ 10
+      ∷ 50 ∷ 32 ∷ 49 ∷ 32 ∷ 48 ∷ 32 ∷ 48 ∷ 10
+      ∷ 51 ∷ 32 ∷ 52 ∷ 32 ∷ 48 ∷ 32 ∷ 48 ∷ 10
       ∷ []
   -- `a = """"b`: key 0–1, refusal 2, key 4–9
   pub four-quotes : tokens (97 ∷ 32 ∷ 61 ∷ 32 ∷ 34 ∷ 34 ∷ 34 ∷ 34 ∷ 98 ∷ [])

@@ -7,6 +7,7 @@ use Rattle.tokenizer.proofs.Valued.{values-injective as came-injective}
 use Rattle.parser.specs.Ruling.{valuesOf}
 use Rattle.parser.specs.declared.ruling.Answer.{Answer}
 use Rattle.parser.specs.declared.ruling.Answer.the-variants as answer
+use Rattle.parser.specs.declared.state.Step.{Step}
 
 -- the tokenizer's answer of the same shape, and back
 abbrev cameFrom : Answer → Came
@@ -33,3 +34,7 @@ same-values (answer.Refused n l) = refl
 pub values-injective : (a b : Answer) → valuesOf a ≡ valuesOf b → a ≡ b
 values-injective a b e =
     sym (back a) ∙ ap answerTo (came-injective (cameFrom a) (cameFrom b) (same-values a ∙ e ∙ sym (same-values b))) ∙ back b
+
+-- so the step's promise is of the very step
+pub equal-steps : (x y : Step) → valuesOf (x .answer) ≡ valuesOf (y .answer) → x .state ≡ y .state → x ≡ y
+equal-steps x y p q = let e = values-injective (x .answer) (y .answer) p in λ i. record { answer = e i; state = q i }

@@ -4,3 +4,5 @@ pub mod Sections
 pub mod Steps
 pub mod Claimed
 pub mod Rests
+pub mod Given
+pub mod Ordered

@@ -61,7 +61,7 @@ saying {d} {a = a} e f r h = record {
 }
 
 -- what is said of what was fed, and of the answers that follow
-abbrev going : Fed → List Came → List Answer
+abbrev pub going : Fed → List Came → List Answer
 going f cs = f .says ++ cond (f .goesOn) (parsed (f .next) cs) []
 
 -- a parser that has kept and refused nothing

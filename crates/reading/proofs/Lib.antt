@@ -4,3 +4,4 @@ pub mod Weight
 pub mod Answers
 pub mod Readings
 pub mod Claimed
+pub mod Places

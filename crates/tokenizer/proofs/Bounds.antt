@@ -1,5 +1,5 @@
--- What a plan counts lies within the rest that it was made for: the bytes that it passes, the text that it says, and the lines
--- that it adds, of which each has a byte. And it opens no 65th section.
+-- What a plan counts lies within the rest that it was made for: the bytes that it passes, among them the text that it says, and
+-- the lines that it adds, of which each has a byte. And it opens no 65th section.
 use Prim.Native.Nat.{ℕ, suc, _+_, _^_, _≤_, _<_}
 use mathlib.Core.Path.{_≡_, ap}
 use mathlib.Core.List.{List, _∷_}
@@ -33,7 +33,7 @@ use Rattle.tokenizer.proofs.PlanCases.{Cases, plan-cases}
 pub record Bounded (n depth : ℕ) (p : Plan) : Type 0 where
   pub pass : p .pass ≤ n
   pub lines : p .lines ≤ p .pass
-  pub reach : reach (p .says) ≤ n
+  pub reach : reach (p .says) ≤ p .pass
   pub sections : depth ≤ 64 → depthAfter (p .change) depth ≤ 64
 
 -- a text of at most n bytes that begins j bytes in, said as f does

@@ -1,0 +1,6 @@
+pub mod Same
+pub mod Counts
+pub mod Searched
+pub mod Searching
+pub mod Parts
+pub mod Examples

@@ -1,0 +1,4 @@
+pub mod Placing
+pub mod Decimals
+pub mod Turns
+pub mod Examples
