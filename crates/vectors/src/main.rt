@@ -34,6 +34,8 @@ fn main() {
     print_count(b"UTF-8: ", t.utf8);
     print_count(b"trimming: ", t.trimming);
     print_count(b"tokens: ", t.tokens);
+    print_count(b"parsing: ", t.parsing);
+    print_count(b"unescaping: ", t.unescaping);
     print_count(b"unreadable lines: ", t.unreadable);
     print_count(b"differences: ", t.differences);
     if 0 < t.differences {

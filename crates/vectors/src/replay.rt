@@ -10,6 +10,8 @@ pub struct Tally {
     pub utf8: usize,
     pub trimming: usize,
     pub tokens: usize,
+    pub parsing: usize,
+    pub unescaping: usize,
     pub unreadable: usize,
     pub differences: usize,
     pub first: usize,
@@ -20,6 +22,8 @@ enum Checked {
     Utf8(bool),
     Trimming(bool),
     Tokens(bool),
+    Parsing(bool),
+    Unescaping(bool),
     Unreadable,
 }
 
@@ -40,19 +44,19 @@ fn trimming_agrees(line: &[u8], s: &[u8], after: usize, which: Dropped) -> bool 
     is_last(line, end) && start.value == p.start && end.value == p.end
 }
 
-// Where the six numbers from `at` on end, if they are those of the row that begins at `from`; else 0.
-fn row_after(line: &[u8], at: usize, rows: &[usize], from: usize) -> usize {
+// Where the `count` numbers from `at` on end, if they are the words from `from` on; else 0.
+fn words_after(line: &[u8], at: usize, words: &[usize], from: usize, count: usize) -> usize {
     let mut end = at;
     let mut j = 0;
-    while j < 6 {
+    while j < count {
         let n = number_at(line, end);
-        if rows.len() <= from {
+        if words.len() <= from {
             return 0;
         }
-        if rows.len() - from <= j {
+        if words.len() - from <= j {
             return 0;
         }
-        if n.value != rows[from + j] {
+        if n.value != words[from + j] {
             return 0;
         }
         end = n.after;
@@ -69,7 +73,7 @@ fn rows_agree(line: &[u8], after: usize, rows: &[usize], n: usize) -> bool {
         if 1000 <= i {
             return false;
         }
-        at = row_after(line, at, rows, 7 * i);
+        at = words_after(line, at, rows, 7 * i, 6);
         if at == 0 {
             return false;
         }
@@ -85,6 +89,59 @@ fn tokens_agree(line: &[u8], s: &[u8], after: usize) -> bool {
     batch::fresh(&mut words);
     let n = batch::tokenize(s, &mut words, &mut rows);
     rows_agree(line, after, &rows, n)
+}
+
+fn parsing_agrees(line: &[u8], s: &[u8], after: usize) -> bool {
+    let mut words = [0usize; 213];
+    let mut rows = [0usize; 3591];
+    batch::fresh_parser(&mut words);
+    let n = batch::parse(s, &mut words, &mut rows);
+    rows_agree(line, after, &rows, n)
+}
+
+// Whether the numbers from `at` to the line's end are the first n bytes.
+fn bytes_agree(line: &[u8], at: usize, bytes: &[u8], n: usize) -> bool {
+    let mut end = at;
+    let mut i = 0;
+    while i < n {
+        let b = number_at(line, end);
+        if bytes.len() <= i {
+            return false;
+        }
+        if b.value != bytes[i] as usize {
+            return false;
+        }
+        end = b.after;
+        i += 1;
+    }
+    end == line.len()
+}
+
+// Whether the numbers from `at` on are the answer for the row's token and, where its text is written, the bytes of this, which
+// is no longer than the token's.
+fn unescaping_agrees(line: &[u8], s: &[u8], at: usize, row: &[usize]) -> bool {
+    let mut out = [0u8; 256];
+    let mut answer = [0usize; 5];
+    if !batch::unescape(s, row, &mut out, &mut answer) {
+        return false;
+    }
+    let end = words_after(line, at, &answer, 0, 5);
+    let n = if answer[0] == 1 { answer[4] } else { 0 };
+    end != 0 && bytes_agree(line, end, &out, n)
+}
+
+// The text is a value on line 1.
+fn value_agrees(line: &[u8], s: &[u8], after: usize) -> bool {
+    let row = [7usize, 1, 0, s.len(), 0, 0];
+    unescaping_agrees(line, s, after, &row)
+}
+
+// The text is a multiline value on line 1 behind its indentation, whose length is the first number.
+fn multiline_agrees(line: &[u8], s: &[u8], after: usize) -> bool {
+    let n = number_at(line, after);
+    let indent = n.value;
+    let row = [9usize, 1, indent, s.len(), 0, indent];
+    unescaping_agrees(line, s, n.after, &row)
 }
 
 fn check_line(line: &[u8]) -> Checked {
@@ -104,6 +161,9 @@ fn check_line(line: &[u8]) -> Checked {
         b'b' => Checked::Trimming(trimming_agrees(line, s, after, Dropped::Blanks)),
         b's' => Checked::Trimming(trimming_agrees(line, s, after, Dropped::BlanksAndBreaks)),
         b't' => Checked::Tokens(tokens_agree(line, s, after)),
+        b'p' => Checked::Parsing(parsing_agrees(line, s, after)),
+        b'v' => Checked::Unescaping(value_agrees(line, s, after)),
+        b'm' => Checked::Unescaping(multiline_agrees(line, s, after)),
         _ => Checked::Unreadable,
     }
 }
@@ -137,6 +197,14 @@ fn counted(mut t: Tally, line: usize, c: Checked) -> Tally {
             t.tokens = up(t.tokens);
             marked(t, line, agrees)
         }
+        Checked::Parsing(agrees) => {
+            t.parsing = up(t.parsing);
+            marked(t, line, agrees)
+        }
+        Checked::Unescaping(agrees) => {
+            t.unescaping = up(t.unescaping);
+            marked(t, line, agrees)
+        }
         Checked::Unreadable => {
             t.unreadable = up(t.unreadable);
             marked(t, line, false)
@@ -149,6 +217,8 @@ pub fn all(s: &[u8]) -> Tally {
         utf8: 0,
         trimming: 0,
         tokens: 0,
+        parsing: 0,
+        unescaping: 0,
         unreadable: 0,
         differences: 0,
         first: 0,

@@ -2,8 +2,9 @@
 #![forbid(unsafe_code)]
 
 mod documents;
-mod tokens;
+mod tasks;
 
+use crate::tasks::Task;
 use std::env;
 use std::hint::black_box;
 use std::process::ExitCode;
@@ -11,17 +12,8 @@ use std::time::{Duration, Instant};
 
 const USAGE: &str = "\
 usage: bench [--bytes N] [--rounds N]
-prints a table in Markdown: documents of up to N bytes, at most 16777216 (default 10000000), and the
+prints tables in Markdown: documents of up to N bytes, at most 16777216 (default 10000000), and the
 medians of N rounds (default 9)";
-
-/// What both sides do with a document. They return the same number, to which each answer adds.
-struct Task {
-    name: &'static str,
-    original: fn(&[u8]) -> usize,
-    port: fn(&[u8]) -> usize,
-}
-
-const TASKS: [Task; 1] = [tokens::TASK];
 
 struct Options {
     bytes: usize,
@@ -33,8 +25,9 @@ fn main() -> ExitCode {
         eprintln!("{USAGE}");
         return ExitCode::from(2);
     };
-    for task in TASKS {
+    for task in tasks::ALL {
         print_table(&task, &options);
+        println!();
     }
     ExitCode::SUCCESS
 }

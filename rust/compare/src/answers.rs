@@ -1,16 +1,33 @@
-//! The original's answers in the port's form: rows with document 01's numbers.
+//! The original's answers in the port's form: rows and texts with document 01's numbers.
 
 use crate::texts::place;
 use conl::port::{Row, REFUSED};
 use original::{SyntaxError, Token};
+use std::borrow::Cow;
+use std::iter;
+use std::ops::Range;
 
-/// What the original answered of a part of `document`.
-pub fn row(document: &[u8], answer: Result<Token, SyntaxError>) -> Row {
-    let token = match answer {
-        Ok(token) => token,
-        Err(SyntaxError { lno, msg }) => return refusal(number_of(&msg), lno),
+/// How the message of an invalid escape code begins. The code follows.
+const INVALID_ESCAPE: &str = "invalid escape code: ";
+
+/// What the original answers of `document`. Past its end it says nothing more.
+pub fn rows<'doc>(
+    document: &[u8],
+    mut answers: impl Iterator<Item = Result<Token<'doc>, SyntaxError>>,
+) -> Vec<Row> {
+    let row = |answer| match answer {
+        Ok(token) => row(document, &token),
+        Err(SyntaxError { lno, msg }) => refusal(number_of(&msg), lno),
     };
-    let (number, text, indent) = match token {
+    let rows = answers.by_ref().map(row).collect();
+    let ended = (0..3).all(|_| answers.next().is_none());
+    assert!(ended, "the original goes on past its end");
+    rows
+}
+
+/// The row of a token whose texts lie in `document`.
+pub fn row(document: &[u8], token: &Token) -> Row {
+    let (number, text, indent) = match *token {
         Token::Newline(_) => (1, None, None),
         Token::Comment(_, text) => (2, Some(text), None),
         Token::Indent(_) => (3, None, None),
@@ -42,6 +59,67 @@ pub fn refusal(number: usize, line: usize) -> Row {
     }
 }
 
+/// The text of a token.
+#[derive(Clone, Debug, Eq, PartialEq)]
+pub enum Text {
+    /// This part of the document.
+    Plain(Range<usize>),
+    /// One that has to be written.
+    Written(Vec<u8>),
+    /// A refusal. Number 8 shows a part of the document, any other 0..0.
+    Refused {
+        number: usize,
+        line: usize,
+        shown: Range<usize>,
+    },
+}
+
+/// What the original unescapes a token to whose texts lie in `document`.
+pub fn text(document: &[u8], token: &Token) -> Text {
+    match token.unescape() {
+        Ok(Cow::Owned(text)) => Text::Written(text.into_bytes()),
+        Ok(Cow::Borrowed(part)) => Text::Plain(match token {
+            Token::Newline(_)
+            | Token::Indent(_)
+            | Token::Outdent(_)
+            | Token::ListItem(_)
+            | Token::NoValue(_) => 0..0,
+            _ => place(document, part),
+        }),
+        Err(SyntaxError { lno: line, msg }) => {
+            let number = number_of(&msg);
+            let shown = match *token {
+                Token::MapKey(_, text) | Token::Value(_, text) if number == 8 => {
+                    place(document, shown(text, &msg))
+                }
+                _ => 0..0,
+            };
+            Text::Refused {
+                number,
+                line,
+                shown,
+            }
+        }
+    }
+}
+
+/// The part of `text` that the message of an invalid escape code shows. Dropping characters from
+/// `text`'s end changes nothing in what the original says until one of this part is dropped.
+fn shown<'a>(text: &'a str, message: &str) -> &'a str {
+    let starts = text.char_indices().rev().map(|(end, _)| &text[..end]);
+    let shortest = iter::once(text)
+        .chain(starts)
+        .take_while(|start| {
+            let answer = Token::Value(1, start).unescape();
+            answer.is_err_and(|error| error.msg == message)
+        })
+        .last()
+        .expect("the whole text");
+    let code = &message[INVALID_ESCAPE.len()..];
+    let passed = shortest.strip_suffix(code).expect("the code at the end");
+    &shortest[passed.len()..]
+}
+
 fn number_of(message: &str) -> usize {
     match message {
         "invalid UTF-8" => 1,
@@ -50,6 +128,10 @@ fn number_of(message: &str) -> usize {
         "unexpected map key" => 5,
         "unexpected list item" => 6,
         "unexpected indent" => 7,
+        "invalid escape code: end of string" => 9,
+        "extra characters after quotes" => 10,
+        "unclosed quotes" => 11,
+        _ if message.starts_with(INVALID_ESCAPE) => 8,
         _ => panic!("the original refuses with {message:?}, which has no number"),
     }
 }
@@ -70,7 +152,16 @@ pub fn name(number: usize) -> &'static str {
         257 => "refusal 1",
         258 => "refusal 2",
         259 => "refusal 3",
+        260 => "refusal 4",
+        261 => "refusal 5",
+        262 => "refusal 6",
+        263 => "refusal 7",
+        264 => "refusal 8",
+        265 => "refusal 9",
+        266 => "refusal 10",
+        267 => "refusal 11",
         268 => "refusal 12",
+        270 => "refusal 14",
         _ => panic!("no answer has the number {number}"),
     }
 }

@@ -22,9 +22,11 @@ const STEPS: [&[&str]; 4] = [&[" "], &["\t"], &[" ", "\t"], &["  ", "\t", " \t",
 /// How many documents there are for each depth and each indentation.
 const NESTED: usize = 200;
 
-/// What documents at the limit repeat: an entry of each sort, one long key, one long comment.
-const REPEATED: [&str; 3] = [
+/// What documents at the limit repeat: an entry of each sort, a map that the parser accepts, one long
+/// key, one long comment.
+const REPEATED: [&str; 4] = [
     "key = \"a \\\" b\" ; ключ\r\n= plain text\n漢字\n  = \"\"\"hint\n\ta\n\n\tb\n",
+    "key = \"a \\\" b\" ; ключ\r\n漢字\n  = plain text\n  =\n  = \"\"\"hint\n    a\n\n     b\n",
     "a",
     ";",
 ];
@@ -36,6 +38,10 @@ pub struct Extent {
     pub short: usize,
     /// How many random documents are tried.
     pub random: usize,
+    /// Up to how many bytes behind a quote every quoted text is unescaped.
+    pub quoted: usize,
+    /// Up to how many bytes every multiline text is unescaped.
+    pub multiline: usize,
     /// Whether documents as long as the limit, one byte shorter and one longer are tried.
     pub at_limit: bool,
 }
@@ -44,12 +50,16 @@ impl Extent {
     pub const GATE: Extent = Extent {
         short: 4,
         random: 100_000,
+        quoted: 6,
+        multiline: 7,
         at_limit: false,
     };
 
     pub const LONG: Extent = Extent {
         short: 5,
         random: 2_000_000,
+        quoted: 7,
+        multiline: 8,
         at_limit: true,
     };
 

@@ -5,12 +5,15 @@
 mod answers;
 mod comment;
 mod documents;
+mod parses;
 mod random;
+mod readings;
 mod structured;
 mod tally;
 mod texts;
 mod tokens;
 mod trimming;
+mod unescaping;
 mod utf8;
 mod vectors;
 
@@ -63,6 +66,8 @@ fn compare(extent: Extent) -> ExitCode {
         trimming::compare(Trim::BlanksAndBreaks),
         comment::compare(),
         tokens::compare(extent),
+        parses::compare(extent),
+        unescaping::compare(extent),
     ];
     let (mut texts, mut bytes, mut differences) = (0, 0, 0);
     for tally in &tallies {

@@ -55,13 +55,16 @@ const MANY: usize = 200;
 
 pub fn document(random: &mut Random) -> Vec<u8> {
     let most = if random.one_in(64) { MANY } else { FEW };
-    let mut writer = Writer {
-        line_break: random.pick(&BREAKS),
-        random,
-        document: String::new(),
-    };
+    let mut writer = Writer::new(random);
     writer.section("", most);
     writer.document.into_bytes()
+}
+
+/// A text in quotes, or nearly so.
+pub fn quoted(random: &mut Random) -> String {
+    let mut writer = Writer::new(random);
+    writer.quoted();
+    writer.document
 }
 
 struct Writer<'a> {
@@ -71,7 +74,15 @@ struct Writer<'a> {
     line_break: &'static str,
 }
 
-impl Writer<'_> {
+impl<'a> Writer<'a> {
+    fn new(random: &'a mut Random) -> Self {
+        Writer {
+            line_break: random.pick(&BREAKS),
+            random,
+            document: String::new(),
+        }
+    }
+
     fn section(&mut self, indent: &str, most: usize) {
         let list = self.random.one_in(2);
         for _ in 0..=self.random.below(most) {

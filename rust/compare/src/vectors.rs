@@ -2,13 +2,18 @@
 //! where there is no Rust: answers of the standard library, then of the original. The port has no
 //! say in it.
 
+use crate::answers::{self, Text};
 use crate::documents::any;
+use crate::parses::parses;
 use crate::random::Random;
+use crate::structured;
 use crate::texts::{hex, Mixed};
 use crate::tokens::tokens;
 use crate::trimming::trimmed;
+use crate::unescaping::QUOTED;
 use crate::utf8::is_valid;
 use conl::port::{Row, Trim};
+use original::Token;
 use std::collections::BTreeSet;
 
 /// How many texts are kept for each question, and how many bytes a random one may have.
@@ -17,8 +22,13 @@ const TRIMMING_TEXTS: usize = 300;
 const RANDOM_BYTES: usize = 64;
 
 /// How many documents are kept, and how many bytes one may have.
-const DOCUMENTS: usize = 2_400;
+const DOCUMENTS: usize = 2_000;
 const DOCUMENT_BYTES: usize = 256;
+
+/// How many values and multiline values are kept, and how many pieces a random one may have.
+const VALUES: usize = 500;
+const MULTILINE_VALUES: usize = 400;
+const PIECES: usize = 16;
 
 /// Unicode's Table 3-7: the ranges of the bytes of well-formed characters.
 const TABLE_3_7: [&[(u8, u8)]; 9] = [
@@ -59,27 +69,77 @@ const MIDDLES: [&str; 8] = [
 ];
 
 /// Documents that turn on one rule each.
-const EXAMPLES: [&str; 19] = [
-    "",
-    "a\n  = \"x\"\n",
-    "a = \"\"\"\"b",
-    "a = \"\"\"\n;x",
-    " a",
-    "k\n a = \"\"\"\n  x",
-    "=\"\"\"\n a",
-    "a = \"\"\"hint ; x\r\n  x\r\n   y\n \n  z\n\nb",
-    "a = \"\"\"\n\tb\r\r\n \tc\r\td",
-    "a = \"\"\"\nb",
-    "a = \"\"\" \n = \"\"\"\n  x\n y",
-    "a\n\tb\n c",
-    "a\n  b\n    c\n d\n",
-    "a\n b\n  c\n; x\n  d\n;y",
-    "= \"a;b\\\";c\\\\\";d\"e;f",
-    "\"a=b\\\"=\" = c = d",
-    "a;b\r=c\r\n;d;e",
-    "=;\n==\n= =;=",
-    " \t ; \u{A0} \t\n\t= \u{3000} ",
+const EXAMPLES: [&[u8]; 23] = [
+    b"",
+    b"a\n  = \"x\"\n",
+    b"a = \"\"\"\"b",
+    b"a = \"\"\"\n;x",
+    b" a",
+    b"k\n a = \"\"\"\n  x",
+    b"=\"\"\"\n a",
+    b"a = \"\"\"hint ; x\r\n  x\r\n   y\n \n  z\n\nb",
+    b"a = \"\"\"\n\tb\r\r\n \tc\r\td",
+    b"a = \"\"\"\nb",
+    b"a = \"\"\" \n = \"\"\"\n  x\n y",
+    b"a\n\tb\n c",
+    b"a\n  b\n    c\n d\n",
+    b"a\n b\n  c\n; x\n  d\n;y",
+    b"= \"a;b\\\";c\\\\\";d\"e;f",
+    b"\"a=b\\\"=\" = c = d",
+    b"a;b\r=c\r\n;d;e",
+    b"=;\n==\n= =;=",
+    b" \t ; \xC2\xA0 \t\n\t= \xE3\x80\x80 ",
+    b"a\n\xFF",
+    b"a\n=",
+    b"=\na",
+    b"a=b\n c",
 ];
+
+/// Values that turn on one rule of unescaping each.
+const VALUE_EXAMPLES: [&str; 25] = [
+    "",
+    "a",
+    "a\"\\{41}\"",
+    "\"\"",
+    "\"a b\"",
+    "\"",
+    "\"a",
+    "\"a\"b",
+    "\"\"\"",
+    "\"a\\",
+    "\"a\\\"",
+    "\"\\\"\\\\\\n\\r\\t\"",
+    "\"\\x\"",
+    "\"\\é\"",
+    "\"\\\\x\\x\"",
+    "\"\\{0010FFFF}\"",
+    "\"\\{00110000}\"",
+    "\"\\{000000041}\"",
+    "\"\\{100000041}\"",
+    "\"\\{D800}\"",
+    "\"\\{}\"",
+    "\"\\{+41}\"",
+    "\"\\{-41}\"",
+    "\"\\{41}\\{41\"",
+    "\"\\{41",
+];
+
+/// Multiline values that turn on one rule of unescaping each, behind their indentations.
+const MULTILINE_EXAMPLES: [(&str, &str); 9] = [
+    ("  ", "x\r\n   y\n \n  z"),
+    ("", "x\ny"),
+    (" ", "x"),
+    (" ", " x\n x"),
+    ("\t", "x\n y\n\tz"),
+    (" ", "x\n"),
+    (" ", "x\r\n"),
+    (" ", "x\r"),
+    (" ", "x\r\r\n\n\r y"),
+];
+
+/// The indentations of random multiline values, and what these are put together from beside them.
+const INDENTS: [&str; 6] = ["", " ", "\t", "  ", " \t", "\t\t "];
+const LINES: [&str; 8] = ["\n", "\r\n", "\r", " ", "\t", "x", "é", "漢字"];
 
 pub fn sample() -> String {
     let mut mixed = Mixed::new();
@@ -94,15 +154,48 @@ pub fn sample() -> String {
             lines += &line(tag, text, &[part.start, part.end]);
         }
     }
-    for document in documents() {
-        let numbers: Vec<usize> = tokens(&document).iter().flat_map(numbers).collect();
-        lines += &line("t", &document, &numbers);
+    let documents = documents();
+    for document in &documents {
+        lines += &line("t", document, &numbers(&tokens(document)));
+    }
+    for document in &documents {
+        lines += &line("p", document, &numbers(&parses(document)));
+    }
+    let random = &mut Random::new();
+    for text in values(random) {
+        let token = Token::Value(1, &text);
+        lines += &line("v", text.as_bytes(), &unescaped(&text, &token));
+    }
+    for (indent, text) in multiline_values(random) {
+        let (blanks, rest) = text.split_at(indent);
+        let token = Token::MultilineValue(1, blanks, rest);
+        let numbers = [vec![indent], unescaped(&text, &token)].concat();
+        lines += &line("m", text.as_bytes(), &numbers);
     }
     lines
 }
 
-fn numbers(row: &Row) -> [usize; 6] {
-    [row.number, row.line, row.start, row.end, row.from, row.to]
+fn numbers(rows: &[Row]) -> Vec<usize> {
+    rows.iter().flat_map(Row::words).collect()
+}
+
+/// Whether the text of a token in `document` is plain (0), written (1) or refused (2); a refusal's
+/// number and line; where the plain part or the part shown starts and ends, or 0 and the length of
+/// the written text; then this text's bytes.
+fn unescaped(document: &str, token: &Token) -> Vec<usize> {
+    match answers::text(document.as_bytes(), token) {
+        Text::Plain(part) => vec![0, 0, 0, part.start, part.end],
+        Text::Written(bytes) => {
+            let numbers = vec![1, 0, 0, 0, bytes.len()];
+            let bytes = bytes.into_iter().map(usize::from);
+            numbers.into_iter().chain(bytes).collect()
+        }
+        Text::Refused {
+            number,
+            line,
+            shown,
+        } => vec![2, number, line, shown.start, shown.end],
+    }
 }
 
 /// A tag, the text's bytes and the answer's numbers, as the program `vectors` reads them.
@@ -113,7 +206,7 @@ fn line(tag: &str, text: &[u8], numbers: &[usize]) -> String {
 
 fn documents() -> BTreeSet<Vec<u8>> {
     let random = &mut Random::new();
-    let mut documents: BTreeSet<_> = EXAMPLES.map(|text| text.as_bytes().to_vec()).into();
+    let mut documents: BTreeSet<_> = EXAMPLES.map(<[u8]>::to_vec).into();
     while documents.len() < DOCUMENTS {
         let document = any(random);
         if document.len() <= DOCUMENT_BYTES {
@@ -121,6 +214,38 @@ fn documents() -> BTreeSet<Vec<u8>> {
         }
     }
     documents
+}
+
+/// Texts in quotes as people write them, and jumbled ones behind a quote.
+fn values(random: &mut Random) -> BTreeSet<String> {
+    let mut values: BTreeSet<_> = VALUE_EXAMPLES.map(String::from).into();
+    while values.len() < VALUES {
+        values.insert(if random.one_in(4) {
+            format!("\"{}", jumbled(random, &QUOTED))
+        } else {
+            structured::quoted(random)
+        });
+    }
+    values
+}
+
+/// Jumbled texts behind an indentation that stands among their pieces, each with how many bytes this
+/// has.
+fn multiline_values(random: &mut Random) -> BTreeSet<(usize, String)> {
+    let with_indent = |(indent, text): (&str, &str)| (indent.len(), [indent, text].concat());
+    let mut values: BTreeSet<_> = MULTILINE_EXAMPLES.map(with_indent).into();
+    while values.len() < MULTILINE_VALUES {
+        let indent = random.pick(&INDENTS);
+        let pieces = [&LINES[..], &[indent; 4]].concat();
+        values.insert(with_indent((indent, &jumbled(random, &pieces))));
+    }
+    values
+}
+
+/// Some of `pieces`, as they come.
+fn jumbled(random: &mut Random, pieces: &[&str]) -> String {
+    let count = random.below(PIECES + 1);
+    (0..count).map(|_| random.pick(pieces)).collect()
 }
 
 fn validity_texts(mixed: &mut Mixed) -> BTreeSet<Vec<u8>> {

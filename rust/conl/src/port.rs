@@ -4,10 +4,15 @@
 //! after it returns. Nothing holds the declarations in these modules to the Rattle source
 //! (`crates/abi`): they are written by hand, and `rust/compare` tries them.
 
+mod parser;
 mod rows;
 mod text;
 mod tokenizer;
+mod unescape;
+mod words;
 
-pub use rows::{Row, Rows, REFUSED};
+pub use parser::{parse, Parser, ParserState};
+pub use rows::{Row, Rows, State, REFUSED};
 pub use text::{is_utf8, trim, Trim};
-pub use tokenizer::{tokenize, Tokenizer};
+pub use tokenizer::{tokenize, Tokenizer, TokenizerState};
+pub use unescape::{unescape, Unescaped};

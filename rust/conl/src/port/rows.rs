@@ -17,7 +17,7 @@ const WORDS: usize = 7;
 #[derive(Clone, Copy, Debug, Default, Eq, PartialEq)]
 pub struct Row {
     /// 1 Newline, 2 Comment, 3 Indent, 4 Outdent, 5 ListItem, 6 MapKey, 7 Value, 8 MultilineHint,
-    /// 9 MultilineValue; or [REFUSED] and a refusal's number.
+    /// 9 MultilineValue, 10 NoValue; or [REFUSED] and a refusal's number.
     pub number: usize,
     pub line: usize,
     /// Where the text starts in the document.
@@ -28,6 +28,21 @@ pub struct Row {
     pub from: usize,
     /// Where it ends.
     pub to: usize,
+}
+
+impl Row {
+    /// The words that it is written in, but for the spare one.
+    #[inline]
+    pub fn words(&self) -> [usize; 6] {
+        [
+            self.number,
+            self.line,
+            self.start,
+            self.end,
+            self.from,
+            self.to,
+        ]
+    }
 }
 
 impl From<[usize; WORDS]> for Row {
@@ -50,7 +65,7 @@ pub trait State {
     fn fresh() -> Self;
 
     /// Takes the steps before End, or as many of them as `rows` has room for. Returns how many rows
-    /// were written, or [NO_STEP] and a refusal's number.
+    /// were written, or 2^63 and a refusal's number.
     fn advance(&mut self, document: &[u8], rows: &mut [usize]) -> usize;
 }
 

@@ -35,6 +35,15 @@ trimming-agrees-requires-2 c κs = search needs
 tokens-agree-requires : tie.Need-tokens-agree-requires
 tokens-agree-requires c κs = search needs
 
+parsing-agrees-requires : tie.Need-parsing-agrees-requires
+parsing-agrees-requires c κs = search needs
+
+value-agrees-requires : tie.Need-value-agrees-requires
+value-agrees-requires c κs = search needs
+
+multiline-agrees-requires : tie.Need-multiline-agrees-requires
+multiline-agrees-requires c κs = search needs
+
 returns-3 : tie.Need-returns-3
 returns-3 c = search needs
 
@@ -50,6 +59,15 @@ returns-6 c = search needs
 returns-7 : tie.Need-returns-7
 returns-7 c = search needs
 
+returns-8 : tie.Need-returns-8
+returns-8 c = search needs
+
+returns-9 : tie.Need-returns-9
+returns-9 c = search needs
+
+returns-10 : tie.Need-returns-10
+returns-10 c = search needs
+
 pub check-line-spec : {M : Type 1} → statement M
 check-line-spec =
     tie.close
@@ -64,8 +82,14 @@ check-line-spec =
     trimming-agrees-requires
     trimming-agrees-requires-2
     tokens-agree-requires
+    parsing-agrees-requires
+    value-agrees-requires
+    multiline-agrees-requires
     returns-3
     returns-4
     returns-5
     returns-6
-    returns-7)
+    returns-7
+    returns-8
+    returns-9
+    returns-10)

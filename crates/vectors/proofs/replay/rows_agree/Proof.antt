@@ -16,11 +16,11 @@ loop-holds c = search needs
 returns : tie.Need-returns Inv-loop μ-loop
 returns c = search needs
 
-mul-row-after : tie.Need-mul-row-after Inv-loop μ-loop
-mul-row-after c = search needs
+mul-words-after : tie.Need-mul-words-after Inv-loop μ-loop
+mul-words-after c = search needs
 
-row-after-requires : tie.Need-row-after-requires Inv-loop μ-loop
-row-after-requires c κs = search needs
+words-after-requires : tie.Need-words-after-requires Inv-loop μ-loop
+words-after-requires c κs = search needs
 
 returns-2 : tie.Need-returns-2 Inv-loop μ-loop
 returns-2 c = search needs
@@ -45,8 +45,8 @@ rows-agree-spec =
     μ-loop
     loop-holds
     returns
-    mul-row-after
-    row-after-requires
+    mul-words-after
+    words-after-requires
     returns-2
     add-i
     loop-less

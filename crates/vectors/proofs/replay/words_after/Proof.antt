@@ -1,14 +1,14 @@
--- `row_after` is safe: a word of the row is read behind a test. Measure: the numbers left of the six.
+-- `words_after` is safe: a word is read behind a test. Measure: the numbers left.
 use Prim.Native.Nat.{_-_, _≤_}
 use borrow.Author.Needs.{needs}
-use Rattle.vectors.proofs.replay.row_after.Statement.{statement}
-use Rattle.vectors.proofs.replay.row_after.Tie as tie
+use Rattle.vectors.proofs.replay.words_after.Statement.{statement}
+use Rattle.vectors.proofs.replay.words_after.Tie as tie
 
 abbrev Inv-loop : tie.InvT-loop
-Inv-loop line at rows from end₀ j₀ end j = j ≤ 6
+Inv-loop line at words from count end₀ j₀ end j = j ≤ count
 
 abbrev μ-loop : tie.MeasureT-loop
-μ-loop line at rows from end₀ j₀ end j = 6 - j
+μ-loop line at words from count end₀ j₀ end j = count - j
 
 loop-holds : tie.Need-loop-holds Inv-loop μ-loop
 loop-holds c = search needs
@@ -49,8 +49,8 @@ loop-again c = search needs
 returns-4 : tie.Need-returns-4 Inv-loop μ-loop
 returns-4 c = search needs
 
-pub row-after-spec : {M : Type 1} → statement M
-row-after-spec =
+pub words-after-spec : {M : Type 1} → statement M
+words-after-spec =
     tie.close
     (tie.spec
     Inv-loop

@@ -1,0 +1,213 @@
+//! Unescaping, against the original's `Token::unescape`.
+
+use crate::answers::{name, row, text, Text};
+use crate::documents::{Extent, LIMIT};
+use crate::tally::Tally;
+use crate::texts::every;
+use conl::port::{self, Row, Unescaped, REFUSED};
+use original::Token;
+use std::iter;
+use std::str;
+
+/// What quoted texts are put together from.
+pub const QUOTED: [&str; 13] = [
+    "\"", "\\", "{", "}", "0", "4", "D", "f", "+", "n", "é", "漢", "😀",
+];
+
+/// What codes in braces are put together from, and how many bytes they have at most.
+const CODES: [&str; 9] = ["0", "1", "8", "D", "f", "+", "-", "g", "é"];
+const CODE_BYTES: usize = 6;
+
+/// Every number up to this one is tried in braces. Scalar values end at 10FFFF.
+const NUMBERS: u64 = 0x11_00FF;
+
+/// Numbers that are tried in braces with up to so many digits: at the ends of the scalar values and
+/// of what so many bytes encode, and such as would be scalar values if they wrapped.
+const NUMBERS_AT_ENDS: [u64; 16] = [
+    0x00,
+    0x7F,
+    0x80,
+    0x7FF,
+    0x800,
+    0xD7FF,
+    0xD800,
+    0xDFFF,
+    0xE000,
+    0xFFFF,
+    0x1_0000,
+    0x10_FFFF,
+    0x11_0000,
+    0xFFFF_FFFF,
+    0x1_0000_0000,
+    0x1_0000_0041,
+];
+const DIGITS: usize = 10;
+
+/// What multiline texts are put together from.
+const LINES: [&str; 5] = [" ", "\t", "\r", "\n", "x"];
+
+/// What their indentations are put together from, and how many bytes these have at most.
+const INDENTS: [&str; 2] = [" ", "\t"];
+const INDENT_BYTES: usize = 3;
+
+/// How many bytes more than a token's text the largest buffer has.
+const SPARE: usize = 8;
+
+/// What is said of a token with one buffer; or that buffer, where bytes of it were changed that are
+/// none of a written text's.
+type Answer = Result<Text, Vec<u8>>;
+
+pub fn compare(extent: Extent) -> Tally {
+    let over_limit = extent.at_limit.then_some(12);
+    let refusals = (8..=11).chain(over_limit).chain([14]);
+    let mut outcomes = vec!["plain", "written"];
+    outcomes.extend(refusals.map(|number| name(REFUSED + number)));
+
+    let mut tally = Tally::start("unescaping", &outcomes);
+    extent.documents(&mut |document| compare_tokens(&mut tally, document, tokens));
+    compare_tokens(&mut tally, b"", |_| vec![Token::NoValue(1)]);
+    quoted_texts(extent.quoted, &mut |text| {
+        compare_tokens(&mut tally, text, value);
+    });
+    multiline_texts(extent.multiline, &mut |document, indent| {
+        compare_tokens(&mut tally, document, |document| multiline(document, indent));
+    });
+    tally
+}
+
+/// Puts to both sides the tokens that `tokens` finds in a text.
+fn compare_tokens(tally: &mut Tally, text: &[u8], tokens: impl Fn(&[u8]) -> Vec<Token>) {
+    let rust = |document: &[u8]| {
+        answers(document, &tokens(document), |row, text, room| {
+            by_original(document, row, text, room)
+        })
+    };
+    let port = |document: &[u8]| {
+        answers(document, &tokens(document), |row, _, room| {
+            by_port(document, row, room)
+        })
+    };
+    for answer in tally.compare(text, rust, port) {
+        tally.saw(match answer.expect("the original has no buffer") {
+            Text::Plain(_) => "plain",
+            Text::Written(_) => "written",
+            Text::Refused { number, .. } => name(REFUSED + number),
+        });
+    }
+}
+
+/// What a side says of each token with a buffer that has room to spare; then, of a text that the
+/// original writes, with one that it just fits and one that is a byte too short; of any other, with
+/// an empty one. The side is given the token's row, what the original says, and the buffer's length.
+fn answers(
+    document: &[u8],
+    tokens: &[Token],
+    side: impl Fn(&Row, &Text, usize) -> Answer,
+) -> Vec<Answer> {
+    let mut answers = Vec::new();
+    for token in tokens {
+        let row = row(document, token);
+        let text = text(document, token);
+        let to_spare = row.end - row.start + SPARE;
+        let others = match &text {
+            Text::Written(bytes) => [Some(bytes.len()), bytes.len().checked_sub(1)],
+            _ => [Some(0), None],
+        };
+        let rooms = iter::once(to_spare).chain(others.into_iter().flatten());
+        answers.extend(rooms.map(|room| side(&row, &text, room)));
+    }
+    answers
+}
+
+/// What the original says, as far as the port's limit and a buffer of `room` bytes let it.
+fn by_original(document: &[u8], row: &Row, text: &Text, room: usize) -> Answer {
+    let refused = |number, line| Text::Refused {
+        number,
+        line,
+        shown: 0..0,
+    };
+    Ok(match text {
+        _ if document.len() > LIMIT => refused(12, 0),
+        Text::Written(bytes) if bytes.len() > room => refused(14, row.line),
+        text => text.clone(),
+    })
+}
+
+/// What the port says with a buffer of `room` bytes.
+fn by_port(document: &[u8], row: &Row, room: usize) -> Answer {
+    // Bytes that no UTF-8 has.
+    let filled = |place: usize| 0xF8 | (place % 8) as u8;
+    let mut buffer: Vec<u8> = (0..room).map(filled).collect();
+    let unescaped = port::unescape(document, row, &mut buffer);
+    let written = match unescaped {
+        Unescaped::Written(len) => len,
+        _ => 0,
+    };
+    if (written..room).any(|place| buffer[place] != filled(place)) {
+        return Err(buffer);
+    }
+    Ok(match unescaped {
+        Unescaped::Plain(part) => Text::Plain(part),
+        Unescaped::Written(len) => Text::Written(buffer[..len].to_vec()),
+        Unescaped::Refused {
+            number,
+            line,
+            shown,
+        } => Text::Refused {
+            number,
+            line,
+            shown,
+        },
+    })
+}
+
+/// The tokens that the original finds in a document.
+fn tokens(document: &[u8]) -> Vec<Token<'_>> {
+    original::tokenize(document).flatten().collect()
+}
+
+/// A text as a value.
+fn value(text: &[u8]) -> Vec<Token<'_>> {
+    let text = str::from_utf8(text).ok();
+    text.map(|text| Token::Value(1, text)).into_iter().collect()
+}
+
+/// A multiline value whose indentation is the first `indent` bytes, its text the rest.
+fn multiline(document: &[u8], indent: usize) -> Vec<Token<'_>> {
+    let document = str::from_utf8(document).ok();
+    let parts = document.and_then(|document| document.split_at_checked(indent));
+    parts
+        .map(|(indent, text)| Token::MultilineValue(1, indent, text))
+        .into_iter()
+        .collect()
+}
+
+/// Hands to `each` every text of up to `most` bytes behind a quote, and texts of one code in braces.
+fn quoted_texts(most: usize, each: &mut impl FnMut(&[u8])) {
+    eprintln!("  every quoted text of up to {most} bytes behind the quote");
+    every(&QUOTED, most, &mut |text| each(&[b"\"", text].concat()));
+
+    eprintln!("  codes in braces");
+    let mut code = |code: &[u8]| each(&[b"\"\\{", code, b"}\""].concat());
+    every(&CODES, CODE_BYTES, &mut code);
+    for number in 0..=NUMBERS {
+        code(format!("{number:X}").as_bytes());
+    }
+    for number in NUMBERS_AT_ENDS {
+        for digits in 1..=DIGITS {
+            code(format!("{number:0digits$x}").as_bytes());
+            code(format!("+{number:0digits$X}").as_bytes());
+        }
+    }
+}
+
+/// Hands to `each` every text of up to `most` bytes behind each indentation, and how many bytes this
+/// has.
+fn multiline_texts(most: usize, each: &mut impl FnMut(&[u8], usize)) {
+    eprintln!("  every multiline text of up to {most} bytes");
+    every(&INDENTS, INDENT_BYTES, &mut |indent| {
+        every(&LINES, most, &mut |text| {
+            each(&[indent, text].concat(), indent.len())
+        });
+    });
+}

@@ -1,0 +1,68 @@
+//! Unescaping.
+
+use super::rows::Row;
+use std::ops::Range;
+
+extern "C" {
+    fn conl_unescape(
+        doc: *const u8,
+        doc_len: usize,
+        row: *const usize,
+        row_len: usize,
+        out: *mut u8,
+        out_len: usize,
+        answer: *mut usize,
+        answer_len: usize,
+    ) -> bool;
+}
+
+/// The text of a token.
+#[derive(Clone, Debug, Eq, PartialEq)]
+pub enum Unescaped {
+    /// It is this part of the document.
+    Plain(Range<usize>),
+    /// It was written: so many bytes at the front of the buffer.
+    Written(usize),
+    /// It is refused. Number 8 shows a part of the document, any other 0..0.
+    Refused {
+        number: usize,
+        line: usize,
+        shown: Range<usize>,
+    },
+}
+
+/// The text of the token in `row`, which is one of `document`'s. A text that is no part of the
+/// document is written at the front of `out`, whose other bytes stay as they are.
+///
+/// # Panics
+///
+/// Where `row` is a refusal.
+pub fn unescape(document: &[u8], row: &Row, out: &mut [u8]) -> Unescaped {
+    let row = row.words();
+    let mut answer = [0; 5];
+    // SAFETY: each pointer and length are those of one slice. `document` and `row` are only read,
+    // and nothing else refers to `out` or `answer`.
+    let answered = unsafe {
+        conl_unescape(
+            document.as_ptr(),
+            document.len(),
+            row.as_ptr(),
+            row.len(),
+            out.as_mut_ptr(),
+            out.len(),
+            answer.as_mut_ptr(),
+            answer.len(),
+        )
+    };
+    assert!(answered, "the row {row:?} is a token's");
+    let [kind, number, line, start, end] = answer;
+    match kind {
+        0 => Unescaped::Plain(start..end),
+        1 => Unescaped::Written(end),
+        _ => Unescaped::Refused {
+            number,
+            line,
+            shown: start..end,
+        },
+    }
+}
