@@ -26,7 +26,7 @@ wrote s n o e f = record { place = e; buffer = f }
 
 -- one text, and another behind it
 pub both : {a b : List ℕ} {n m k : ℕ} {o p q : List ℕ} → Wrote a n m o p → Wrote b m k p q → Wrote (a ++ b) n k o q
-both {a} {b} {n} {m} {k} {o} {p} {q} v w = record {
+both {a = a} {b = b} {n = n} {o = o} v w = record {
   place = rw length-append (omega arith);
   buffer = w .buffer ∙ rw (v .place, v .buffer, placed-append a b n o);
 }

@@ -22,13 +22,14 @@ use Rattle.rows.proofs.Placing.{Wrote, both, placed-filled}
 pub told : (a b : Answer) {t u : Bool} → valuesOf a ≡ valuesOf b → t ≡ isEnd a → t ≡ u → isEnd b ≡ u
 told a b v e f = sym (ap isEnd (values-injective a b v)) ∙ sym e ∙ f
 
--- the loop began at the place n of the buffer o, and has come to the place m of the buffer p, and to a state of the parsing
+-- the loop began at the place n of the buffer o, and has come to the place m of the buffer p, and to a state of the parsing; a row
+-- has at most 85 bytes, and there are at most 2 * 65,536
 pub record Turn (d : List ℕ) (n m : ℕ) (o p : List ℕ) (s : State) : Type 0 where
   pub stands : Stands d s
   pub text : List ℕ
   pub wrote : Wrote text n m o p
   pub left : rowsText (parse d) ≡ text ++ rowsText (rest d s)
-  pub room : m + 85 * length (rest d s) ≤ 11141140
+  pub room : m + 85 * length (rest d s) ≤ 20 + 85 * 131072
 
 module _ (d : List ℕ) (n : ℕ) (o : List ℕ) where
   pub start : {s : State} → s ≡ fresh → length d ≤ 65536 → n ≤ 20 → Turn d n n o o s
