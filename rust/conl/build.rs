@@ -60,7 +60,10 @@ fn make_archive(root: &Path) -> Result<(), String> {
         .stdout(io::stderr())
         .status()
         .map_err(|error| {
-            format!("rt, which makes target/staticlib/libabi.a, cannot be run from PATH: {error}")
+            format!(
+                "target/staticlib/libabi.a is missing or out of date, and rt of the Rattle kit, \
+                 which makes it, cannot be run: {error} (rt must be on PATH)"
+            )
         })?;
     if status.success() {
         Ok(())

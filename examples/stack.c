@@ -1,0 +1,82 @@
+/*
+ * Measures how many bytes of stack each function of the library uses on a layout: it is called in
+ * a thread whose stack was painted before. Build it, in the repository's folder, with
+ *
+ *     cc -std=c11 -Iinclude -o target/stack examples/stack.c target/staticlib/libabi.a -lpthread
+ */
+#define _POSIX_C_SOURCE 200809L
+#include "conl.h"
+
+#include <pthread.h>
+#include <stdio.h>
+#include <stdlib.h>
+#include <string.h>
+
+enum { STACK = 1 << 18, PAINT = 0xA5, MOST = 1 << 16, ROOM = 64 };
+
+static _Alignas(4096) uint8_t stack[STACK];
+static uint8_t layout[MOST], out[MOST];
+static size_t length, tokens[CONL_STATE_WORDS], parser[CONL_PARSER_WORDS];
+static size_t rows[ROOM * CONL_ROW_WORDS], answer[CONL_ANSWER_WORDS];
+
+static void *nothing(void *unused) { return unused; }
+
+static void *tokenize(void *unused)
+{
+    conl_fresh(tokens, CONL_STATE_WORDS);
+    while (conl_tokenize(layout, length, tokens, CONL_STATE_WORDS, rows, ROOM * CONL_ROW_WORDS) == ROOM)
+        continue;
+    return unused;
+}
+
+static void *parse(void *unused)
+{
+    conl_fresh_parser(parser, CONL_PARSER_WORDS);
+    while (conl_parse(layout, length, parser, CONL_PARSER_WORDS, rows, ROOM * CONL_ROW_WORDS) == ROOM)
+        continue;
+    return unused;
+}
+
+static void *unescape(void *unused)
+{
+    size_t n;
+    conl_fresh_parser(parser, CONL_PARSER_WORDS);
+    do {
+        n = conl_parse(layout, length, parser, CONL_PARSER_WORDS, rows, ROOM * CONL_ROW_WORDS);
+        for (size_t i = 0; i < n && i < ROOM; i++)
+            conl_unescape(layout, length, rows + i * CONL_ROW_WORDS, CONL_ROW_WORDS, out, MOST, answer, CONL_ANSWER_WORDS);
+    } while (n == ROOM);
+    return unused;
+}
+
+static void *look_up(void *unused)
+{
+    conl_look_up(layout, length, (const uint8_t *)"?", 1, answer, CONL_ANSWER_WORDS);
+    return unused;
+}
+
+static size_t used(void *(*call)(void *))
+{
+    pthread_attr_t attributes;
+    pthread_t thread;
+    size_t untouched = 0;
+    memset(stack, PAINT, STACK);
+    if (pthread_attr_init(&attributes) || pthread_attr_setstack(&attributes, stack, STACK)
+        || pthread_create(&thread, &attributes, call, NULL) || pthread_join(thread, NULL)) {
+        fputs("stack: a thread cannot be made\n", stderr);
+        exit(2);
+    }
+    while (untouched < STACK && stack[untouched] == PAINT)
+        untouched++;
+    return STACK - untouched;
+}
+
+int main(void)
+{
+    length = fread(layout, 1, MOST, stdin);
+    size_t thread = used(nothing);
+    printf("conl_tokenize: %zu\n", used(tokenize) - thread);
+    printf("conl_parse: %zu\n", used(parse) - thread);
+    printf("conl_parse, conl_unescape: %zu\n", used(unescape) - thread);
+    printf("conl_look_up: %zu\n", used(look_up) - thread);
+}

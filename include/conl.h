@@ -1,0 +1,189 @@
+/*
+ * The proved reader of CONL, for C: the functions of target/staticlib/libabi.a, which
+ * `rt staticlib abi` makes from crates/abi. They need memcpy and memset, and nothing else.
+ *
+ * A word is a size_t, of 64 bits.
+ *
+ * A slice is lent as a pointer and a length, in bytes (uint8_t) or in words. The pointer must not
+ * be null, even where the length is 0, and a pointer to words must be aligned as a size_t is. A
+ * slice that is not const is written to: it must overlap no other slice of the call, and nothing
+ * else may use its memory before the call returns. No function keeps a pointer or touches other
+ * memory.
+ *
+ * A document is any bytes; more than CONL_MAX_DOCUMENT of them are refused by number 12. Places are
+ * counted in its bytes from 0, and an end is the place behind the last byte. Lines are counted
+ * from 1.
+ *
+ * Nothing more is asked of a caller: every call returns, whatever bytes and words the slices hold.
+ * Nothing holds these declarations to crates/abi but the programs that use them.
+ */
+#ifndef CONL_H
+#define CONL_H
+
+#include <stdbool.h>
+#include <stddef.h>
+#include <stdint.h>
+
+#if SIZE_MAX != UINT64_MAX
+#error "conl.h: the library is made for words of 64 bits"
+#endif
+
+#ifdef __cplusplus
+extern "C" {
+#endif
+
+/* The most bytes of a document, and the most sections that may be open. */
+#define CONL_MAX_DOCUMENT 16777216
+#define CONL_MAX_OPEN 64
+
+/* How many words a tokenizer's state, a parser's state, a row and an answer have. */
+#define CONL_STATE_WORDS 137
+#define CONL_PARSER_WORDS 213
+#define CONL_ROW_WORDS 7
+#define CONL_ANSWER_WORDS 5
+
+/* The words of a row, which one step of a reading gives: each 0 where there is no such thing. */
+enum conl_row_word {
+    CONL_ROW_NUMBER,       /* an enum conl_kind, or CONL_REFUSED and an enum conl_refusal */
+    CONL_ROW_LINE,         /* the line that the token starts on, or that is refused */
+    CONL_ROW_START,        /* where the text starts */
+    CONL_ROW_END,          /* where it ends: where it starts, if it is empty */
+    CONL_ROW_INDENT_START, /* where a multiline value's indentation starts */
+    CONL_ROW_INDENT_END,   /* where it ends */
+    CONL_ROW_SPARE
+};
+
+/* What a row adds to a refusal's number. */
+#define CONL_REFUSED 256
+
+/* The kinds of tokens. Each has a text, without the blanks around it, where one is named. */
+enum conl_kind {
+    CONL_NEWLINE = 1,         /* a line ends: CR LF, CR or LF */
+    CONL_COMMENT = 2,         /* the text behind a ; */
+    CONL_INDENT = 3,          /* a section opens */
+    CONL_OUTDENT = 4,         /* the innermost section closes */
+    CONL_LIST_ITEM = 5,       /* an item; its value comes next */
+    CONL_MAP_KEY = 6,         /* the text of a key; its value comes next */
+    CONL_VALUE = 7,           /* the text of a value on the line of its key or item */
+    CONL_MULTILINE_HINT = 8,  /* the text behind the """ before a multiline value */
+    CONL_MULTILINE_VALUE = 9, /* the text of a value on lines of its own; it has an indentation */
+    CONL_NO_VALUE = 10        /* the key or item of this line has no value; the parser's alone */
+};
+
+/* Why something is refused. */
+enum conl_refusal {
+    CONL_INVALID_UTF8 = 1,            /* 1 to 3: the tokenizer's, and so the parser's too */
+    CONL_CHARACTERS_AFTER_QUOTES = 2, /* a fourth " behind """ */
+    CONL_TOO_MANY_OPEN = 3,           /* one section more than CONL_MAX_OPEN */
+    CONL_MISSING_MULTILINE = 4,       /* 4 to 7: the parser's */
+    CONL_UNEXPECTED_KEY = 5,
+    CONL_UNEXPECTED_ITEM = 6,
+    CONL_UNEXPECTED_INDENT = 7,
+    CONL_INVALID_ESCAPE = 8, /* 8 to 11: of a text that is unescaped */
+    CONL_ESCAPE_AT_END = 9,
+    CONL_EXTRA_CHARACTERS = 10, /* behind the closing quote */
+    CONL_UNCLOSED_QUOTES = 11,
+    CONL_TOO_LONG = 12,     /* the document has more bytes than CONL_MAX_DOCUMENT */
+    CONL_UNFIT_TOKEN = 13,  /* a row's text or indentation is not in the document, or no UTF-8 */
+    CONL_SHORT_BUFFER = 14, /* the buffer has fewer bytes than the text that is to be written */
+    CONL_UNFIT_STATE = 15   /* the words are no state, or none of a reading of the document */
+};
+
+/* What a call that takes no step adds to the refusal that it returns: above any count of rows. */
+#define CONL_NO_STEP ((size_t)1 << 63)
+
+/*
+ * The tokenizer's fresh state: true, with the state in the first CONL_STATE_WORDS words of `state`;
+ * or false, with nothing written, where there are fewer.
+ */
+bool conl_fresh(size_t *state, size_t state_len);
+
+/*
+ * Takes steps of the tokenizer from the state in `state` on, and writes a row for each to the front
+ * of `rows`, until the document ends or no room is left for a whole row. Returns how many rows it
+ * wrote: fewer than there is room for means that the document has ended. `state` is then the state
+ * after these steps, for the next call, with the same document. A refusal is a row among others,
+ * and the next step goes on after it. Every word behind the state and behind the rows is as it was.
+ *
+ * Returns CONL_NO_STEP + CONL_TOO_LONG where the document is too long; else CONL_NO_STEP +
+ * CONL_UNFIT_STATE where `state` holds no state, or one that does not fit the document, which no
+ * reading from the fresh state on comes to. Nothing is written then.
+ */
+size_t conl_tokenize(const uint8_t *doc, size_t doc_len, size_t *state, size_t state_len,
+                     size_t *rows, size_t rows_len);
+
+/* The parser's fresh state, as conl_fresh gives the tokenizer's: in CONL_PARSER_WORDS words. */
+bool conl_fresh_parser(size_t *state, size_t state_len);
+
+/*
+ * The same as conl_tokenize with the parser's steps and its state, but that a refusal is the last
+ * row of a reading.
+ *
+ * A state that no reading from the fresh one on comes to may turn out not to fit the document only
+ * later. The rows before that are returned, and the next call returns CONL_NO_STEP +
+ * CONL_UNFIT_STATE.
+ */
+size_t conl_parse(const uint8_t *doc, size_t doc_len, size_t *state, size_t state_len,
+                  size_t *rows, size_t rows_len);
+
+/* The words of an answer. */
+enum conl_answer_word {
+    CONL_ANSWER_SORT,   /* an enum conl_sort */
+    CONL_ANSWER_NUMBER, /* a refusal's number, or 0 */
+    CONL_ANSWER_LINE,   /* a refusal's line, or a key's, or 0 */
+    CONL_ANSWER_START,  /* where a part of the document starts, or 0 */
+    CONL_ANSWER_END     /* where it ends, or the length of a text that was written, or 0 */
+};
+
+/* The sorts of answers, and the words that each has besides its sort. */
+enum conl_sort {
+    CONL_PLAIN = 0,   /* conl_unescape: start and end of the text in the document */
+    CONL_WRITTEN = 1, /* conl_unescape: the length of the text, which is at the front of `out` */
+    CONL_NOTHING = 0, /* conl_look_up: no such key */
+    CONL_FOUND = 1,   /* conl_look_up: the key's line, and start and end of its entry */
+    CONL_REFUSAL = 2  /* number and line; for 8, start and end of the part that is wrong */
+};
+
+/*
+ * Unescapes the text of a token of the document: of `row`, as conl_tokenize or conl_parse wrote it,
+ * with or without the spare word. The text of a kind that has none is the empty part at 0.
+ *
+ * Returns true, with the answer in the first CONL_ANSWER_WORDS words of `answer`. A text that is no
+ * part of the document is written to the front of `out`, of which every other byte is as it was; it
+ * is never longer than the row's text, so that so long a buffer is never refused by 14. Refusals
+ * are, in this order: 12, on line 0; 13, which no row of a reading from the fresh state on meets; 8
+ * to 11; 14. All but 12 are on the token's line.
+ *
+ * Returns false, with nothing written, where `row` has fewer than six words or is no token's, or
+ * `answer` has fewer than CONL_ANSWER_WORDS words.
+ */
+bool conl_unescape(const uint8_t *doc, size_t doc_len, const size_t *row, size_t row_len,
+                   uint8_t *out, size_t out_len, size_t *answer, size_t answer_len);
+
+/*
+ * Looks up the first key at top level whose text is, byte for byte as it stands in the document,
+ * `wanted`. Its entry is the part of the document from the key's first byte to the next top-level
+ * key's, or to the document's end.
+ *
+ * Returns true, with the answer in the first CONL_ANSWER_WORDS words of `answer`. A refusal of the
+ * parser is the answer where it comes before the entry's end, and anywhere where there is no such
+ * key; 12 is on line 0. Returns false, with nothing written, where there are fewer words.
+ */
+bool conl_look_up(const uint8_t *doc, size_t doc_len, const uint8_t *wanted, size_t wanted_len,
+                  size_t *answer, size_t answer_len);
+
+/* Whether `s` is well-formed UTF-8. */
+bool conl_is_utf8(const uint8_t *s, size_t s_len);
+
+/*
+ * Trims `s` of spaces and tabs at both ends, and with `breaks` of CR and LF too: true, with start
+ * and end of what is left in the first two words of `part`, both 0 where nothing is; or false, with
+ * nothing written, where there are fewer than two.
+ */
+bool conl_trim(const uint8_t *s, size_t s_len, bool breaks, size_t *part, size_t part_len);
+
+#ifdef __cplusplus
+}
+#endif
+
+#endif
