@@ -10,6 +10,7 @@ use Rattle.tokenizer.specs.Step.{fresh as freshTokenizer}
 use Rattle.tokenizer.specs.declared.state.Answer.{Answer as Came}
 use Rattle.tokenizer.specs.declared.state.Answer.the-variants as came
 use Rattle.tokenizer.specs.declared.state.State.{State as Tokenizer}
+use Rattle.tokenizer.specs.declared.state.Step.{Step as TokenStep}
 use Rattle.parser.specs.Ruling.{rulingOf}
 use Rattle.parser.specs.declared.ruling.Answer.the-variants as answer
 use Rattle.parser.specs.declared.ruling.Sort.the-variants.{Unset}
@@ -84,10 +85,13 @@ unfoldable pub stepWith : State → Came → Tokenizer → Step
 stepWith s c t = onRuling (rulingOf (s .awaited) (innermostOf (s .sections) (s .count)) (fullOf (s .count)) c) s t
 
 -- what was kept comes again, else the tokenizer's next answer
+abbrev pub cameOf : List ℕ → Tokenizer → Kept → TokenStep
+cameOf d t kept.Nothing = tokenStep d t
+cameOf d t kept.End = record { answer = came.End; state = t }
+cameOf d t (kept.Token x) = record { answer = came.Token x; state = t }
+
 unfoldable pub stepKept : List ℕ → State → Kept → Step
-stepKept d s kept.Nothing = stepWith s (tokenStep d (s .tokenizer) .answer) (tokenStep d (s .tokenizer) .state)
-stepKept d s kept.End = stepWith s came.End (s .tokenizer)
-stepKept d s (kept.Token t) = stepWith s (came.Token t) (s .tokenizer)
+stepKept d s k = stepWith s (cameOf d (s .tokenizer) k .answer) (cameOf d (s .tokenizer) k .state)
 
 -- the step
 unfoldable pub stepOf : List ℕ → State → Step

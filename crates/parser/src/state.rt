@@ -20,6 +20,7 @@ ghost use Rattle.parser.specs.Step.{
   countAfter,
   afterVerdict,
   stepWith,
+  cameOf,
   stepKept,
   stepOf,
   fresh,
@@ -85,6 +86,23 @@ fn count_after(change: Change, count: usize) -> usize
         Change::Fix(_) => count,
         Change::Open => count + 1,
         Change::Close => count - 1,
+    }
+}
+
+// What was kept comes again, else the tokenizer's next answer.
+fn came(kept: Kept, tokenizer: tokenizer::State, doc: &[u8]) -> tokenizer::Step
+    ensures { λ r. ⌜ r ≡ cameOf (now (doc .entry)) tokenizer kept ⌝ }
+{
+    match kept {
+        Kept::Nothing => tokenizer.step(doc),
+        Kept::End => tokenizer::Step {
+            answer: tokenizer::Answer::End,
+            state: tokenizer,
+        },
+        Kept::Token(t) => tokenizer::Step {
+            answer: tokenizer::Answer::Token(t),
+            state: tokenizer,
+        },
     }
 }
 
@@ -163,22 +181,16 @@ impl State {
         }
     }
 
-    // What was kept comes again, else the tokenizer's next answer.
+    // What is made of what was kept, or of the tokenizer's next answer.
     fn step_kept(self, doc: &[u8]) -> Step
         ensures { λ r. ⌜ r ≡ stepKept (now (doc .entry)) self (self .kept) ⌝ }
     {
         let kept = self.kept;
         let tokenizer = self.tokenizer;
-        match kept {
-            Kept::Nothing => {
-                let m = tokenizer.step(doc);
-                let came = m.answer;
-                let next = m.state;
-                self.step_with(came, next)
-            }
-            Kept::End => self.step_with(tokenizer::Answer::End, tokenizer),
-            Kept::Token(t) => self.step_with(tokenizer::Answer::Token(t), tokenizer),
-        }
+        let m = came(kept, tokenizer, doc);
+        let answer = m.answer;
+        let next = m.state;
+        self.step_with(answer, next)
     }
 
     // One step: the answer, and the state for the next call. 12, 15 and End give the very state back.

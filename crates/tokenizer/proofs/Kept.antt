@@ -76,7 +76,7 @@ module _ (n : ℕ) where
 
 module _ (d : List ℕ) (s : State) where
   -- the step's indentation fits
-  indent-fit : Fitness (length d) s → fitPart (length d) (indentOf (s .held) (s .place) (drop (s .place) d)) ≡ true
+  pub indent-fit : Fitness (length d) s → fitPart (length d) (indentOf (s .held) (s .place) (drop (s .place) d)) ≡ true
   unfolding blanks
   indent-fit f = at (s .held) (f .held)
     where

@@ -1,15 +1,12 @@
--- The step's rule by the code's own branches: over the limit, unfit, with a held indentation, without one.
-use Prim.Native.Nat.{ℕ, _+_, _≤_, _<_}
-use mathlib.Core.Path.{_≡_, refl, ap}
+-- The step's rule by the code's own branches: over the limit, unfit, and the step of a fit state.
+use Prim.Native.Nat.{ℕ, _≤_, _<_}
+use mathlib.Core.Path.{_≡_, ap}
 use mathlib.Core.List.{List}
 use mathlib.Core.Bool.{true, false}
-use lib.ListN.{length, drop}
+use lib.ListN.{length}
 use borrow.Author.Tests.{lt-ltb, le-ltb}
-use Rattle.text.specs.declared.bytes.Part.{Part}
 use Rattle.tokenizer.specs.Token.{valuesOf}
-use Rattle.tokenizer.specs.Scans.{blanks}
-use Rattle.tokenizer.specs.Step.{stepWith, stepRule, fit, refusal, stepOf}
-use Rattle.tokenizer.specs.declared.state.Held.the-variants.{Nothing, At}
+use Rattle.tokenizer.specs.Step.{stepRule, fit, refusal, stepOf}
 use Rattle.tokenizer.specs.declared.state.State.{State}
 use Rattle.tokenizer.specs.declared.state.Step.{Step}
 
@@ -25,16 +22,6 @@ module _ (d : List ℕ) (s : State) where
   pub ruled : length d ≤ 16777216 → fit (length d) s ≡ true → stepOf d s ≡ stepRule d s
   unfolding stepOf
   ruled h e = rw (le-ltb 16777216 (length d) h, e)
-
-  -- Rule 1
-  pub held : (p : Part) → s .held ≡ At p → stepRule d s ≡ stepWith d s p 0
-  unfolding stepRule
-  held p e = simp e
-
-  pub not-held : s .held ≡ Nothing
-      → stepRule d s ≡ stepWith d s (record { start = s .place; end = s .place + blanks (drop (s .place) d) }) (blanks (drop (s .place) d))
-  unfolding stepRule
-  not-held e = simp e
 
 -- what the step promises of an equal step
 pub promised : {x y : Step} → x ≡ y → (valuesOf (x .answer) ≡ valuesOf (y .answer)) × (x .state ≡ y .state)

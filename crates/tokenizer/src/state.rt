@@ -14,6 +14,8 @@ ghost use Prim.Native.Nat.{_+_, _-_, _<_, _≤_, _^_};
 ghost use lib.ListN.{length, set};
 ghost use Rattle.tokenizer.specs.Token.{valuesOf};
 ghost use Rattle.tokenizer.specs.Step.{
+  indentOf,
+  sizeOf,
   answerOf,
   reach,
   innerOf,
@@ -73,6 +75,32 @@ fn held_fits(held: Held, n: usize) -> bool
     }
 }
 
+// Rule 1: the indentation of a step, and how many bytes of it stand at the place.
+struct Indentation {
+    part: Part,
+    size: usize,
+}
+
+fn indent_at(held: Held, place: usize, rest: &[u8]) -> Indentation
+    requires { ⌜ place + length (now rest) < 2 ^ 64 ⌝ }
+    ensures { λ r. ⌜ r .part ≡ indentOf held place (now (rest .entry)) ⌝ }
+    ensures { λ r. ⌜ r .size ≡ sizeOf held (now (rest .entry)) ⌝ }
+{
+    match held {
+        Held::At(p) => Indentation { part: p, size: 0 },
+        Held::Nothing => {
+            let size = text::leading(Dropped::Blanks, rest);
+            Indentation {
+                part: Part {
+                    start: place,
+                    end: place + size,
+                },
+                size,
+            }
+        }
+    }
+}
+
 // What a plan says, with its line and its places.
 fn answered(says: Says, line: usize, place: usize, indent: Part) -> Answer
     requires { ⌜ place + reach says < 2 ^ 64 ⌝ }
@@ -126,26 +154,15 @@ fn depth_after(change: Change, depth: usize) -> usize
     }
 }
 
-// The open indentations with one more.
-fn pushed(indent: Part, indents: [Part; 64], depth: usize) -> [Part; 64]
-    requires { ⌜ depth < 64 ⌝ }
-    ensures { λ r. ⌜ r ≡ set indents depth indent ⌝ }
-{
-    let mut out = indents;
-    out[depth] = indent;
-    out
-}
-
 fn indents_after(change: Change, indent: Part, indents: [Part; 64], depth: usize) -> [Part; 64]
     requires { ⌜ depthAfter change depth ≤ 64 ⌝ }
     ensures { λ r. ⌜ r ≡ indentsAfter change indent indents depth ⌝ }
 {
-    match change {
-        Change::Keep => indents,
-        Change::Open => pushed(indent, indents, depth),
-        Change::Close => indents,
-        Change::Hold => indents,
+    let mut out = indents;
+    if let Change::Open = change {
+        out[depth] = indent;
     }
+    out
 }
 
 impl State {
@@ -290,19 +307,8 @@ impl State {
         }
         let place = self.place;
         let held = self.held;
-        match held {
-            Held::At(p) => self.step_with(doc, p, 0),
-            Held::Nothing => {
-                let k = text::leading(Dropped::Blanks, &doc[place..]);
-                self.step_with(
-                    doc,
-                    Part {
-                        start: place,
-                        end: place + k,
-                    },
-                    k,
-                )
-            }
-        }
+        let i = indent_at(held, place, &doc[place..]);
+        let indent = i.part;
+        self.step_with(doc, indent, i.size)
     }
 }
