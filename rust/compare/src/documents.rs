@@ -1,6 +1,7 @@
 //! The documents that comparisons of whole readings go through.
 
 use crate::random::Random;
+use crate::spend::{Spend, Spent};
 use crate::structured;
 use crate::texts::every;
 
@@ -37,11 +38,13 @@ pub struct Extent {
     /// Up to how many bytes every document over the alphabet is tried.
     pub short: usize,
     /// How many random documents are tried.
-    pub random: usize,
+    pub random: Spend,
     /// Up to how many bytes behind a quote every quoted text is unescaped.
     pub quoted: usize,
     /// Up to how many bytes every multiline text is unescaped.
     pub multiline: usize,
+    /// Up to how many bytes every document is put above another, and this below it.
+    pub joined: [usize; 2],
     /// Whether documents as long as the limit, one byte shorter and one longer are tried.
     pub at_limit: bool,
 }
@@ -49,22 +52,25 @@ pub struct Extent {
 impl Extent {
     pub const GATE: Extent = Extent {
         short: 4,
-        random: 100_000,
+        random: Spend::Documents(100_000),
         quoted: 6,
         multiline: 7,
+        joined: [3, 3],
         at_limit: false,
     };
 
     pub const LONG: Extent = Extent {
         short: 5,
-        random: 2_000_000,
+        random: Spend::Documents(2_000_000),
         quoted: 7,
         multiline: 8,
+        joined: [5, 3],
         at_limit: true,
     };
 
-    /// Hands each document to `each`, and says on standard error how far it is.
-    pub fn documents(self, each: &mut impl FnMut(&[u8])) {
+    /// Hands each document to `each`, and says on standard error how far it is. What is spent on the
+    /// random ones comes back.
+    pub fn documents(self, each: &mut impl FnMut(&[u8])) -> Spent {
         let random = &mut Random::new();
         eprintln!("  every document of up to {} bytes", self.short);
         every(&ALPHABET.map(|byte| [byte]), self.short, each);
@@ -76,16 +82,17 @@ impl Extent {
                 }
             }
         }
-        for count in 0..self.random {
-            if count % 100_000 == 0 {
-                eprintln!("  random documents: {count} of {}", self.random);
-            }
-            each(&any(random));
-        }
         if self.at_limit {
             eprintln!("  about {LIMIT} bytes");
             at_limit(each);
         }
+        let mut spent = Spent::start();
+        while !spent.is_all(self.random) {
+            let document = any(random);
+            each(&document);
+            spent.on(&document);
+        }
+        spent
     }
 }
 

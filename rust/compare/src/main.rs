@@ -5,9 +5,13 @@
 mod answers;
 mod comment;
 mod documents;
+mod ends;
+mod joined;
+mod look_ups;
 mod parses;
 mod random;
 mod readings;
+mod spend;
 mod structured;
 mod tally;
 mod texts;
@@ -18,6 +22,8 @@ mod utf8;
 mod vectors;
 
 use crate::documents::Extent;
+use crate::joined::Joined;
+use crate::spend::Spend;
 use crate::tally::Tally;
 use conl::port::Trim;
 use std::env;
@@ -25,9 +31,11 @@ use std::ffi::OsString;
 use std::process::ExitCode;
 
 const USAGE: &str = "\
-usage: compare                     hold the port against Rust and print what was compared
-       compare long [DOCUMENTS]    the same with more documents, of which so many are random
-       compare vectors             print the stored sample of Rust's answers";
+usage: compare                 hold the port against Rust and print what was compared
+       compare long [--seconds N | --megabytes N]
+                               the same with more texts and documents, then random documents for so
+                               long or so many bytes (a megabyte is 1,000,000), else 2,000,000
+       compare vectors         print the stored sample of Rust's answers";
 
 fn main() -> ExitCode {
     let words: Vec<OsString> = env::args_os().skip(1).collect();
@@ -45,7 +53,14 @@ fn main() -> ExitCode {
 fn long(words: &[OsString]) -> Option<Extent> {
     let random = match words {
         [] => Extent::LONG.random,
-        [count] => count.to_str()?.parse().ok()?,
+        [what, count] => {
+            let count = count.to_str()?.parse().ok()?;
+            match what.to_str()? {
+                "--seconds" => Spend::Seconds(count),
+                "--megabytes" => Spend::Megabytes(count),
+                _ => return None,
+            }
+        }
         _ => return None,
     };
     Some(Extent {
@@ -60,15 +75,13 @@ fn misused() -> ExitCode {
 }
 
 fn compare(extent: Extent) -> ExitCode {
-    let tallies = [
+    let mut tallies = vec![
         utf8::compare(),
         trimming::compare(Trim::Blanks),
         trimming::compare(Trim::BlanksAndBreaks),
         comment::compare(),
-        tokens::compare(extent),
-        parses::compare(extent),
-        unescaping::compare(extent),
     ];
+    tallies.extend(compare_documents(extent));
     let (mut texts, mut bytes, mut differences) = (0, 0, 0);
     for tally in &tallies {
         print!("{tally}");
@@ -82,4 +95,26 @@ fn compare(extent: Extent) -> ExitCode {
     } else {
         ExitCode::FAILURE
     }
+}
+
+/// The comparisons that go through the same documents, each of which is made once for all.
+fn compare_documents(extent: Extent) -> [Tally; 6] {
+    let mut unescaping = unescaping::start(extent.at_limit);
+    unescaping::compare_texts(&mut unescaping, extent.quoted, extent.multiline);
+    let mut joined = Joined::start();
+    joined.compare_short(extent.joined);
+    let mut tokens = tokens::start(extent.at_limit);
+    let mut parses = parses::start(extent.at_limit);
+    let mut look_ups = look_ups::start(extent.at_limit);
+    let mut ends = ends::start(extent.at_limit);
+    let spent = extent.documents(&mut |document| {
+        tokens::compare(&mut tokens, document);
+        parses::compare(&mut parses, document);
+        unescaping::compare(&mut unescaping, document);
+        look_ups::compare(&mut look_ups, document);
+        ends::compare(&mut ends, document);
+        joined.compare(document);
+    });
+    println!("{spent}");
+    [tokens, parses, unescaping, look_ups, ends, joined.tally()]
 }

@@ -1,19 +1,23 @@
 //! The parser's answers, against the original's `parse`.
 
 use crate::answers::rows;
-use crate::documents::Extent;
-use crate::readings::{self, Reading};
+use crate::readings::Reading;
 use crate::tally::Tally;
 use conl::port::{ParserState, Row};
 
-pub fn compare(extent: Extent) -> Tally {
-    let reading = Reading {
-        name: "parsing",
-        kinds: 1..=10,
-        refusals: 1..=7,
-        original: parses,
-    };
-    readings::compare::<ParserState>(reading, extent)
+const READING: Reading = Reading {
+    name: "parsing",
+    kinds: 1..=10,
+    refusals: 1..=7,
+    original: parses,
+};
+
+pub fn start(over_limit: bool) -> Tally {
+    READING.start(over_limit)
+}
+
+pub fn compare(tally: &mut Tally, document: &[u8]) {
+    READING.compare::<ParserState>(tally, document);
 }
 
 /// What the original says. It ends after a refusal.

@@ -1,7 +1,7 @@
 //! The answers of a whole reading, against the original's.
 
 use crate::answers::{name, refusal};
-use crate::documents::{Extent, LIMIT};
+use crate::documents::LIMIT;
 use crate::tally::Tally;
 use conl::port::{Row, Rows, State, REFUSED};
 use std::iter;
@@ -10,8 +10,12 @@ use std::ops::RangeInclusive;
 /// How many sections the port lets be open.
 const SECTIONS: usize = 64;
 
-const INDENT: usize = 3;
-const OUTDENT: usize = 4;
+pub const COMMENT: usize = 2;
+pub const INDENT: usize = 3;
+pub const OUTDENT: usize = 4;
+pub const LIST_ITEM: usize = 5;
+pub const MAP_KEY: usize = 6;
+pub const MULTILINE_VALUE: usize = 9;
 const UNEXPECTED_INDENT: usize = REFUSED + 7;
 
 /// What a tally calls a document of which nothing is refused.
@@ -28,37 +32,39 @@ pub struct Reading {
     pub original: fn(&[u8]) -> Vec<Row>,
 }
 
-type Way = (&'static str, fn(&[u8]) -> Vec<Row>);
+type Way = (&'static str, fn(&[u8], &Vec<Row>) -> Vec<Row>);
 
-/// Holds the port's reading with states `S` against the original's.
-pub fn compare<S: State>(reading: Reading, extent: Extent) -> Tally {
-    // The port's answers must not depend on how many of them a call has room for.
-    let ways: [Way; 3] = [
-        ("port, a row at a time", by_port::<S, 1>),
-        ("port, two rows at a time", by_port::<S, 2>),
-        ("port, 256 rows at a time", by_port::<S, 256>),
-    ];
-    let over_limit = extent.at_limit.then_some(12);
-    let refusals = reading.refusals.chain(over_limit);
-    let numbers = reading.kinds.chain(refusals.map(|number| REFUSED + number));
-    let outcomes: Vec<_> = iter::once(ACCEPTED).chain(numbers.map(name)).collect();
+impl Reading {
+    /// Starts the comparison; documents over the limit are among those to come or not.
+    pub fn start(&self, over_limit: bool) -> Tally {
+        let refusals = self.refusals.clone().chain(over_limit.then_some(12));
+        let refusals = refusals.map(|number| REFUSED + number);
+        let numbers = self.kinds.clone().chain(refusals);
+        let outcomes: Vec<_> = iter::once(ACCEPTED).chain(numbers.map(name)).collect();
+        Tally::start(self.name, &outcomes)
+    }
 
-    let mut tally = Tally::start(reading.name, &outcomes);
-    let by_original = |document: &[u8]| within_limits(document, reading.original);
-    extent.documents(&mut |document| {
-        let rows = tally.compare_each(document, by_original, &ways);
+    /// Holds the port's reading with states `S` against the original's.
+    pub fn compare<S: State>(&self, tally: &mut Tally, document: &[u8]) {
+        // The port's answers must not depend on how many of them a call has room for.
+        let ways: [Way; 3] = [
+            ("port, a row at a time", by_port::<S, 1>),
+            ("port, two rows at a time", by_port::<S, 2>),
+            ("port, 256 rows at a time", by_port::<S, 256>),
+        ];
+        let by_original = |document: &[u8]| within_limits(document, self.original);
+        let rows = tally.compare_each(document, by_original, ways);
         if rows.iter().all(|row| row.number < REFUSED) {
             tally.saw(ACCEPTED);
         }
         for row in rows {
             tally.saw(name(row.number));
         }
-    });
-    tally
+    }
 }
 
 /// What `original` says, up to where the port's limits stop it.
-fn within_limits(document: &[u8], original: fn(&[u8]) -> Vec<Row>) -> Vec<Row> {
+pub fn within_limits(document: &[u8], original: fn(&[u8]) -> Vec<Row>) -> Vec<Row> {
     if document.len() > LIMIT {
         return vec![refusal(12, 0)];
     }
@@ -84,14 +90,19 @@ fn one_section_too_many(rows: &[Row]) -> Option<usize> {
 }
 
 /// What the port says, up to a first refusal 3: the original has nothing like the rest.
-fn by_port<S: State, const ROOM: usize>(document: &[u8]) -> Vec<Row> {
+fn by_port<S: State, const ROOM: usize>(document: &[u8], _: &Vec<Row>) -> Vec<Row> {
     let mut rows = Vec::new();
-    // A reading has at most two answers for each byte: one more shows a port that never ends.
-    for row in Rows::<S, ROOM>::new(document).take(2 * document.len() + 1) {
+    for row in Rows::<S, ROOM>::new(document).take(bound(document)) {
         rows.push(row);
         if row.number == REFUSED + 3 {
             break;
         }
     }
     rows
+}
+
+/// How many answers are taken: a reading has at most two for each byte, and one more shows a port
+/// that never ends.
+pub fn bound(document: &[u8]) -> usize {
+    2 * document.len() + 1
 }

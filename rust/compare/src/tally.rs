@@ -19,13 +19,13 @@ pub struct Tally {
     smallest: Option<Difference>,
 }
 
-/// A text of which the two sides say different things.
+/// A text, in one part or more, of which the two sides say different things.
 struct Difference {
-    text: Vec<u8>,
-    rust: String,
-    port: String,
-    /// How the port was asked.
-    way: &'static str,
+    parts: Vec<Vec<u8>>,
+    /// What is due, and who says so.
+    due: (&'static str, String),
+    /// What the port says, and how it was asked.
+    port: (&'static str, String),
 }
 
 impl Tally {
@@ -49,25 +49,44 @@ impl Tally {
         rust: impl Fn(&[u8]) -> Answer,
         port: impl Fn(&[u8]) -> Answer,
     ) -> Answer {
-        self.compare_each(text, rust, &[("port", port)])
+        self.compare_each(text, rust, [("port", |text: &[u8], _: &Answer| port(text))])
     }
 
-    /// Puts `text` to Rust, and to the port in each of the named `ways`. The answer is what Rust
-    /// says.
-    pub fn compare_each<Answer: PartialEq + Debug>(
+    /// Puts `text` to Rust, and to the port in each of the named `ways`, which are told what Rust
+    /// says. The answer is what Rust says.
+    pub fn compare_each<const WAYS: usize, Answer: PartialEq + Debug>(
         &mut self,
         text: &[u8],
         rust: impl Fn(&[u8]) -> Answer,
-        ways: &[(&'static str, impl Fn(&[u8]) -> Answer)],
+        ways: [(&'static str, impl Fn(&[u8], &Answer) -> Answer); WAYS],
     ) -> Answer {
+        let rust = |[text]: [&[u8]; 1]| rust(text);
+        let ways = ways.map(|(name, port)| {
+            let port = move |[text]: [&[u8]; 1], said: &Answer| port(text, said);
+            (name, port)
+        });
+        self.compare_parts([text], |_| true, ("Rust", rust), &ways)
+    }
+
+    /// Puts a text in parts to the side that says what is due, and to the port in each of the named
+    /// ways. The answer is what is due. A text is made shorter only where its parts still fit.
+    pub fn compare_parts<const PARTS: usize, Answer: PartialEq + Debug>(
+        &mut self,
+        parts: [&[u8]; PARTS],
+        fit: impl Fn([&[u8]; PARTS]) -> bool,
+        (who, due): (&'static str, impl Fn([&[u8]; PARTS]) -> Answer),
+        ways: &[(&'static str, impl Fn([&[u8]; PARTS], &Answer) -> Answer)],
+    ) -> Answer {
+        let len: usize = parts.iter().map(|part| part.len()).sum();
         self.texts += 1;
-        self.bytes += text.len() as u64;
-        let answer = rust(text);
-        if let Some((way, port)) = ways.iter().find(|(_, port)| answer != port(text)) {
+        self.bytes += len as u64;
+        let answer = due(parts);
+        let differing = ways.iter().find(|(_, port)| answer != port(parts, &answer));
+        if let Some((way, port)) = differing {
             self.differences += 1;
-            let smaller = |kept: &Difference| text.len() < kept.text.len();
-            if self.smallest.as_ref().is_none_or(smaller) {
-                self.smallest = Some(Difference::shrunk(text, rust, port, way));
+            if self.smallest.as_ref().is_none_or(|kept| len < kept.len()) {
+                let smallest = Difference::shrunk(parts, fit, (who, due), (way, port));
+                self.smallest = Some(smallest);
             }
         }
         answer
@@ -86,20 +105,39 @@ impl Tally {
 }
 
 impl Difference {
-    /// The difference about `text`, or a shorter one that is left of it.
-    fn shrunk<Answer: PartialEq + Debug>(
-        text: &[u8],
-        rust: impl Fn(&[u8]) -> Answer,
-        port: impl Fn(&[u8]) -> Answer,
-        way: &'static str,
+    /// The difference about a text, or a shorter one that is left of it.
+    fn shrunk<const PARTS: usize, Answer: PartialEq + Debug>(
+        parts: [&[u8]; PARTS],
+        fit: impl Fn([&[u8]; PARTS]) -> bool,
+        (who, due): (&'static str, impl Fn([&[u8]; PARTS]) -> Answer),
+        (way, port): (&'static str, impl Fn([&[u8]; PARTS], &Answer) -> Answer),
     ) -> Self {
-        let text = shrink(text.to_vec(), |text| rust(text) != port(text));
-        Difference {
-            rust: format!("{:?}", rust(&text)),
-            port: format!("{:?}", port(&text)),
-            way,
-            text,
+        let said = |parts: [&[u8]; PARTS]| {
+            let due = due(parts);
+            let port = port(parts, &due);
+            (due, port)
+        };
+        let mut parts = parts.map(<[u8]>::to_vec);
+        for part in 0..PARTS {
+            parts[part] = shrink(parts[part].clone(), |shorter| {
+                let mut parts = parts.each_ref().map(Vec::as_slice);
+                parts[part] = shorter;
+                fit(parts) && {
+                    let (due, port) = said(parts);
+                    due != port
+                }
+            });
         }
+        let (due, port) = said(parts.each_ref().map(Vec::as_slice));
+        Difference {
+            due: (who, format!("{due:?}")),
+            port: (way, format!("{port:?}")),
+            parts: parts.into(),
+        }
+    }
+
+    fn len(&self) -> usize {
+        self.parts.iter().map(Vec::len).sum()
     }
 }
 
@@ -142,19 +180,20 @@ impl Display for Tally {
 
 impl Display for Difference {
     fn fmt(&self, f: &mut Formatter) -> fmt::Result {
-        let len = self.text.len();
-        let bytes = shown(&hex(&self.text), 0);
-        let escaped = shown(&self.text.escape_ascii().to_string(), 0);
-        writeln!(
-            f,
-            "  smallest difference, {len} bytes: {bytes} \"{escaped}\""
-        )?;
+        write!(f, "  smallest difference, {} bytes:", self.len())?;
+        for part in &self.parts {
+            let escaped = part.escape_ascii().to_string();
+            write!(f, " {} \"{}\"", shown(&hex(part), 0), shown(&escaped, 0))?;
+        }
+        writeln!(f)?;
 
-        let both = self.rust.chars().zip(self.port.chars());
-        let alike = both.take_while(|(rust, port)| rust == port).count();
+        let (who, due) = &self.due;
+        let (way, port) = &self.port;
+        let both = due.chars().zip(port.chars());
+        let alike = both.take_while(|(due, port)| due == port).count();
         let from = alike.saturating_sub(SHOWN / 2);
-        writeln!(f, "    Rust: {}", shown(&self.rust, from))?;
-        writeln!(f, "    {}: {}", self.way, shown(&self.port, from))
+        writeln!(f, "    {who}: {}", shown(due, from))?;
+        writeln!(f, "    {way}: {}", shown(port, from))
     }
 }
 

@@ -1,19 +1,23 @@
 //! The tokenizer's answers, against the original's `tokenize`.
 
 use crate::answers::rows;
-use crate::documents::Extent;
-use crate::readings::{self, Reading};
+use crate::readings::Reading;
 use crate::tally::Tally;
 use conl::port::{Row, TokenizerState};
 
-pub fn compare(extent: Extent) -> Tally {
-    let reading = Reading {
-        name: "tokens",
-        kinds: 1..=9,
-        refusals: 1..=3,
-        original: tokens,
-    };
-    readings::compare::<TokenizerState>(reading, extent)
+const READING: Reading = Reading {
+    name: "tokens",
+    kinds: 1..=9,
+    refusals: 1..=3,
+    original: tokens,
+};
+
+pub fn start(over_limit: bool) -> Tally {
+    READING.start(over_limit)
+}
+
+pub fn compare(tally: &mut Tally, document: &[u8]) {
+    READING.compare::<TokenizerState>(tally, document);
 }
 
 /// What the original says.

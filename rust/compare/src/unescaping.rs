@@ -1,7 +1,7 @@
 //! Unescaping, against the original's `Token::unescape`.
 
 use crate::answers::{name, row, text, Text};
-use crate::documents::{Extent, LIMIT};
+use crate::documents::LIMIT;
 use crate::tally::Tally;
 use crate::texts::every;
 use conl::port::{self, Row, Unescaped, REFUSED};
@@ -55,40 +55,51 @@ const SPARE: usize = 8;
 
 /// What is said of a token with one buffer; or that buffer, where bytes of it were changed that are
 /// none of a written text's.
-type Answer = Result<Text, Vec<u8>>;
+pub type Answer = Result<Text, Vec<u8>>;
 
-pub fn compare(extent: Extent) -> Tally {
-    let over_limit = extent.at_limit.then_some(12);
+/// The token of a row, a buffer's length, and what is said of the token with such a buffer.
+#[derive(Debug, PartialEq)]
+struct Said {
+    row: Row,
+    room: usize,
+    answer: Answer,
+}
+
+pub fn start(over_limit: bool) -> Tally {
+    let over_limit = over_limit.then_some(12);
     let refusals = (8..=11).chain(over_limit).chain([14]);
     let mut outcomes = vec!["plain", "written"];
     outcomes.extend(refusals.map(|number| name(REFUSED + number)));
+    Tally::start("unescaping", &outcomes)
+}
 
-    let mut tally = Tally::start("unescaping", &outcomes);
-    extent.documents(&mut |document| compare_tokens(&mut tally, document, tokens));
-    compare_tokens(&mut tally, b"", |_| vec![Token::NoValue(1)]);
-    quoted_texts(extent.quoted, &mut |text| {
-        compare_tokens(&mut tally, text, value);
+/// Texts of up to so many bytes that are no whole documents: quoted ones and multiline ones.
+pub fn compare_texts(tally: &mut Tally, quoted: usize, most: usize) {
+    compare_tokens(tally, b"", |_| vec![Token::NoValue(1)]);
+    quoted_texts(quoted, &mut |text| compare_tokens(tally, text, value));
+    multiline_texts(most, &mut |document, indent| {
+        compare_tokens(tally, document, |document| multiline(document, indent));
     });
-    multiline_texts(extent.multiline, &mut |document, indent| {
-        compare_tokens(&mut tally, document, |document| multiline(document, indent));
-    });
-    tally
+}
+
+/// Every token of a document.
+pub fn compare(tally: &mut Tally, document: &[u8]) {
+    compare_tokens(tally, document, tokens);
 }
 
 /// Puts to both sides the tokens that `tokens` finds in a text.
 fn compare_tokens(tally: &mut Tally, text: &[u8], tokens: impl Fn(&[u8]) -> Vec<Token>) {
-    let rust = |document: &[u8]| {
-        answers(document, &tokens(document), |row, text, room| {
-            by_original(document, row, text, room)
-        })
+    let rust = |document: &[u8]| answers(document, &tokens(document));
+    let port = |document: &[u8], said: &Vec<Said>| {
+        let port = |&Said { row, room, .. }: &Said| Said {
+            row,
+            room,
+            answer: by_port(document, &row, room),
+        };
+        said.iter().map(port).collect()
     };
-    let port = |document: &[u8]| {
-        answers(document, &tokens(document), |row, _, room| {
-            by_port(document, row, room)
-        })
-    };
-    for answer in tally.compare(text, rust, port) {
-        tally.saw(match answer.expect("the original has no buffer") {
+    for said in tally.compare_each(text, rust, [("port", port)]) {
+        tally.saw(match said.answer.expect("the original has no buffer") {
             Text::Plain(_) => "plain",
             Text::Written(_) => "written",
             Text::Refused { number, .. } => name(REFUSED + number),
@@ -96,27 +107,31 @@ fn compare_tokens(tally: &mut Tally, text: &[u8], tokens: impl Fn(&[u8]) -> Vec<
     }
 }
 
-/// What a side says of each token with a buffer that has room to spare; then, of a text that the
-/// original writes, with one that it just fits and one that is a byte too short; of any other, with
-/// an empty one. The side is given the token's row, what the original says, and the buffer's length.
-fn answers(
-    document: &[u8],
-    tokens: &[Token],
-    side: impl Fn(&Row, &Text, usize) -> Answer,
-) -> Vec<Answer> {
+/// What the original says of each token with a buffer that has room to spare; then, of a text that
+/// it writes, with one that it just fits and one that is a byte too short; of any other, with an
+/// empty one.
+fn answers(document: &[u8], tokens: &[Token]) -> Vec<Said> {
     let mut answers = Vec::new();
     for token in tokens {
         let row = row(document, token);
         let text = text(document, token);
-        let to_spare = row.end - row.start + SPARE;
         let others = match &text {
             Text::Written(bytes) => [Some(bytes.len()), bytes.len().checked_sub(1)],
             _ => [Some(0), None],
         };
-        let rooms = iter::once(to_spare).chain(others.into_iter().flatten());
-        answers.extend(rooms.map(|room| side(&row, &text, room)));
+        let rooms = iter::once(to_spare(&row)).chain(others.into_iter().flatten());
+        answers.extend(rooms.map(|room| Said {
+            row,
+            room,
+            answer: by_original(document, &row, &text, room),
+        }));
     }
     answers
+}
+
+/// How many bytes a buffer has that has room to spare for a token's text.
+pub fn to_spare(row: &Row) -> usize {
+    row.end - row.start + SPARE
 }
 
 /// What the original says, as far as the port's limit and a buffer of `room` bytes let it.
@@ -134,7 +149,7 @@ fn by_original(document: &[u8], row: &Row, text: &Text, room: usize) -> Answer {
 }
 
 /// What the port says with a buffer of `room` bytes.
-fn by_port(document: &[u8], row: &Row, room: usize) -> Answer {
+pub fn by_port(document: &[u8], row: &Row, room: usize) -> Answer {
     // Bytes that no UTF-8 has.
     let filled = |place: usize| 0xF8 | (place % 8) as u8;
     let mut buffer: Vec<u8> = (0..room).map(filled).collect();

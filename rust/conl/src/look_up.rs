@@ -1,17 +1,7 @@
 //! The look-up of a top-level key.
 
 use crate::error::SyntaxError;
-
-extern "C" {
-    fn conl_look_up(
-        doc: *const u8,
-        doc_len: usize,
-        wanted: *const u8,
-        wanted_len: usize,
-        answer: *mut usize,
-        answer_len: usize,
-    ) -> bool;
-}
+use crate::port::{self, Found};
 
 /// A top-level entry of a document.
 #[derive(Clone, Copy, Debug, Eq, PartialEq)]
@@ -28,27 +18,12 @@ pub struct Entry<'doc> {
 /// An error of [parse](crate::parse) is the answer where it comes before the entry's end, and
 /// anywhere where there is no such key. The original has nothing like it.
 pub fn look_up<'doc>(document: &'doc [u8], key: &[u8]) -> Result<Option<Entry<'doc>>, SyntaxError> {
-    let mut answer = [0; 5];
-    // SAFETY: each pointer and length are those of one slice. `document` and `key` are only read, and
-    // nothing else refers to `answer`.
-    let answered = unsafe {
-        conl_look_up(
-            document.as_ptr(),
-            document.len(),
-            key.as_ptr(),
-            key.len(),
-            answer.as_mut_ptr(),
-            answer.len(),
-        )
-    };
-    assert!(answered, "an answer of five words is written");
-    let [sort, number, lno, start, end] = answer;
-    match sort {
-        0 => Ok(None),
-        1 => Ok(Some(Entry {
-            lno,
-            text: &document[start..end],
+    match port::look_up(document, key) {
+        Found::Nothing => Ok(None),
+        Found::At { line, range } => Ok(Some(Entry {
+            lno: line,
+            text: &document[range],
         })),
-        _ => Err(SyntaxError::refused(number, lno, "")),
+        Found::Refused { number, line } => Err(SyntaxError::refused(number, line, "")),
     }
 }

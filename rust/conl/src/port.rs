@@ -4,6 +4,7 @@
 //! after it returns. Nothing holds the declarations in these modules to the Rattle source
 //! (`crates/abi`): they are written by hand, and `rust/compare` tries them.
 
+mod look_up;
 mod parser;
 mod rows;
 mod text;
@@ -11,8 +12,9 @@ mod tokenizer;
 mod unescape;
 mod words;
 
+pub use look_up::{look_up, Found};
 pub use parser::{parse, Parser, ParserState};
-pub use rows::{Row, Rows, State, REFUSED};
+pub use rows::{Row, Rows, State, NO_STEP, REFUSED, WORDS};
 pub use text::{is_utf8, trim, Trim};
 pub use tokenizer::{tokenize, Tokenizer, TokenizerState};
 pub use unescape::{unescape, Unescaped};

@@ -36,4 +36,8 @@ impl State for ParserState {
         // SAFETY: as above, and it only reads what it is lent as a `&[u8]`.
         unsafe { self.0.advance(conl_parse, document, rows) }
     }
+
+    fn words(&mut self) -> &mut [usize] {
+        self.0.as_mut_slice()
+    }
 }

@@ -8,10 +8,10 @@ use std::ops::Range;
 pub const REFUSED: usize = 256;
 
 /// What a call that takes no step adds to the number of the refusal that it returns.
-const NO_STEP: usize = 1 << 63;
+pub const NO_STEP: usize = 1 << 63;
 
 /// How many words a row has. The last one is spare.
-const WORDS: usize = 7;
+pub const WORDS: usize = 7;
 
 /// An answer, with zeros for what it does not carry.
 #[derive(Clone, Copy, Debug, Default, Eq, PartialEq)]
@@ -67,6 +67,9 @@ pub trait State {
     /// Takes the steps before End, or as many of them as `rows` has room for. Returns how many rows
     /// were written, or 2^63 and a refusal's number.
     fn advance(&mut self, document: &[u8], rows: &mut [usize]) -> usize;
+
+    /// The words that the library is lent. It answers of any words: what is no state is refused.
+    fn words(&mut self) -> &mut [usize];
 }
 
 /// The rows of a reading, fetched `ROOM` at a time.

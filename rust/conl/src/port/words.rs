@@ -30,6 +30,10 @@ impl<const COUNT: usize> Words<COUNT> {
         Words(words)
     }
 
+    pub fn as_mut_slice(&mut self) -> &mut [usize] {
+        &mut self.0
+    }
+
     /// Has `advance` take steps from the state in the words: what it returns.
     ///
     /// # Safety
