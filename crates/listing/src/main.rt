@@ -19,11 +19,17 @@ fn out_room() -> [u8; 2752532]
     [0; 2752532]
 }
 
+// A listing that can't be written, or does not fit, is told on standard error.
 fn print(out: &[u8], k: usize) {
-    if k <= out.len() {
-        io::write_all(STDOUT_FILENO, &out[..k]);
-    } else {
-        io::write_all(STDERR_FILENO, b"the listing does not fit\n");
+    if out.len() < k {
+        io::write_all(STDERR_FILENO, b"listing: the listing does not fit\n");
+        return;
+    }
+    if !io::write_all(STDOUT_FILENO, &out[..k]) {
+        io::write_all(
+            STDERR_FILENO,
+            b"listing: standard output can't be written\n",
+        );
     }
 }
 

@@ -6,22 +6,31 @@ use Rattle.listing.proofs.print.Statement.{statement}
 use Rattle.listing.proofs.print.Tie as tie
 
 slice-aggregate-write-all : tie.Need-slice-aggregate-write-all
-slice-aggregate-write-all c = sym (length-take-le _ _ (c .before .if1 .taken))
+slice-aggregate-write-all c = search needs
 
 write-all-requires : tie.Need-write-all-requires
 write-all-requires c κs = search needs
 
+returns : tie.Need-returns
+returns c = search needs
+
 slice-aggregate-write-all-2 : tie.Need-slice-aggregate-write-all-2
-slice-aggregate-write-all-2 c = search needs
+slice-aggregate-write-all-2 c = sym (length-take-le _ _ (c .before .if1 .left))
 
 write-all-requires-2 : tie.Need-write-all-requires-2
 write-all-requires-2 c κs = search needs
 
-returns : tie.Need-returns
-returns c = search needs
+slice-aggregate-write-all-3 : tie.Need-slice-aggregate-write-all-3
+slice-aggregate-write-all-3 c = search needs
+
+write-all-requires-3 : tie.Need-write-all-requires-3
+write-all-requires-3 c κs = search needs
 
 returns-2 : tie.Need-returns-2
 returns-2 c = search needs
+
+returns-3 : tie.Need-returns-3
+returns-3 c = search needs
 
 pub print-spec : {M : Type 1} → statement M
 print-spec =
@@ -29,7 +38,10 @@ print-spec =
     (tie.spec
     slice-aggregate-write-all
     write-all-requires
+    returns
     slice-aggregate-write-all-2
     write-all-requires-2
-    returns
-    returns-2)
+    slice-aggregate-write-all-3
+    write-all-requires-3
+    returns-2
+    returns-3)
