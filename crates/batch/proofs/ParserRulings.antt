@@ -9,7 +9,7 @@ use Rattle.tokenizer.specs.declared.token.Token.{Token}
 use Rattle.tokenizer.specs.declared.token.Token.the-variants as token
 use Rattle.tokenizer.specs.declared.state.Answer.{Answer as Came}
 use Rattle.tokenizer.specs.declared.state.Answer.the-variants as came
-use Rattle.parser.specs.Ruling.{
+use Rattle.ruling.specs.Ruling.{
   valuesOf,
   clashes,
   onEntry,
@@ -22,13 +22,13 @@ use Rattle.parser.specs.Ruling.{
   onEnd,
   rulingOf,
 }
-use Rattle.parser.specs.declared.ruling.Sort.{Sort}
-use Rattle.parser.specs.declared.ruling.Awaited.{Awaited}
-use Rattle.parser.specs.declared.ruling.Awaited.the-variants as awaited
-use Rattle.parser.specs.declared.ruling.Innermost.{Innermost}
-use Rattle.parser.specs.declared.ruling.Innermost.the-variants.{Missing, Of}
-use Rattle.parser.specs.declared.ruling.Ruling.{Ruling}
-use Rattle.parser.specs.declared.ruling.Ruling.the-variants.{Says, End, Unfit}
+use Rattle.ruling.specs.declared.ruling.Sort.{Sort}
+use Rattle.ruling.specs.declared.ruling.Awaited.{Awaited}
+use Rattle.ruling.specs.declared.ruling.Awaited.the-variants as awaited
+use Rattle.ruling.specs.declared.ruling.Innermost.{Innermost}
+use Rattle.ruling.specs.declared.ruling.Innermost.the-variants.{Missing, Of}
+use Rattle.ruling.specs.declared.ruling.Ruling.{Ruling}
+use Rattle.ruling.specs.declared.ruling.Ruling.the-variants.{Says, End, Unfit}
 
 -- what it says, if anything, has a small number
 abbrev pub Few : Ruling → Type 0

@@ -13,16 +13,16 @@ use Rattle.tokenizer.specs.declared.state.Answer.the-variants as came
 use Rattle.tokenizer.specs.declared.state.State.{State as Tokenizer}
 use Rattle.tokenizer.proofs.Kept.{step-slots}
 use Rattle.tokenizer.proofs.Numbers.{number-le}
-use Rattle.parser.specs.Ruling.{valuesOf, rulingOf}
+use Rattle.ruling.specs.Ruling.{valuesOf, rulingOf}
 use Rattle.parser.specs.Step.{innermostOf, fullOf, sectionsAfter, afterVerdict, onRuling, stepWith, stepKept, stepOf}
-use Rattle.parser.specs.declared.ruling.Answer.{Answer}
-use Rattle.parser.specs.declared.ruling.Answer.the-variants as answer
-use Rattle.parser.specs.declared.ruling.Kept.{Kept}
-use Rattle.parser.specs.declared.ruling.Kept.the-variants as kept
-use Rattle.parser.specs.declared.ruling.Change.{Change}
-use Rattle.parser.specs.declared.ruling.Change.the-variants.{Keep, Fix, Open, Close}
-use Rattle.parser.specs.declared.ruling.Ruling.{Ruling}
-use Rattle.parser.specs.declared.ruling.Ruling.the-variants.{Says, End, Unfit}
+use Rattle.ruling.specs.declared.ruling.Answer.{Answer}
+use Rattle.ruling.specs.declared.ruling.Answer.the-variants as answer
+use Rattle.ruling.specs.declared.ruling.Kept.{Kept}
+use Rattle.ruling.specs.declared.ruling.Kept.the-variants as kept
+use Rattle.ruling.specs.declared.ruling.Change.{Change}
+use Rattle.ruling.specs.declared.ruling.Change.the-variants.{Keep, Fix, Open, Close}
+use Rattle.ruling.specs.declared.ruling.Ruling.{Ruling}
+use Rattle.ruling.specs.declared.ruling.Ruling.the-variants.{Says, End, Unfit}
 use Rattle.parser.specs.declared.state.State.{State}
 use Rattle.parser.specs.declared.state.Step.{Step}
 use Rattle.batch.specs.ParserWords.{parserIn}

@@ -9,10 +9,10 @@ use native.Mathlib.Omega.{arith}
 use lib.Dec.{leb}
 use lib.ListN.{length, take, drop, getD, set, length-append}
 use lib.Seq.{getD-drop, drop-drop, take-all}
-use Rattle.parser.specs.declared.ruling.Awaited.{Awaited}
-use Rattle.parser.specs.declared.ruling.Awaited.the-variants as awaited
-use Rattle.parser.specs.declared.ruling.Kept.{Kept}
-use Rattle.parser.specs.declared.ruling.Kept.the-variants as kept
+use Rattle.ruling.specs.declared.ruling.Awaited.{Awaited}
+use Rattle.ruling.specs.declared.ruling.Awaited.the-variants as awaited
+use Rattle.ruling.specs.declared.ruling.Kept.{Kept}
+use Rattle.ruling.specs.declared.ruling.Kept.the-variants as kept
 use Rattle.parser.specs.declared.state.Section.{Section}
 use Rattle.parser.specs.declared.state.State.{State}
 use Rattle.batch.specs.Words.{pasted, wordsOf}

@@ -11,12 +11,12 @@ use Rattle.tokenizer.specs.Token.{bare, tokenValues}
 use Rattle.tokenizer.specs.declared.token.Token.{Token}
 use Rattle.tokenizer.specs.declared.token.Token.the-variants as token
 use Rattle.parser.specs.Step.{fresh}
-use Rattle.parser.specs.declared.ruling.Sort.{Sort}
-use Rattle.parser.specs.declared.ruling.Sort.the-variants.{Unset, Map, List as Listed}
-use Rattle.parser.specs.declared.ruling.Awaited.{Awaited}
-use Rattle.parser.specs.declared.ruling.Awaited.the-variants as awaited
-use Rattle.parser.specs.declared.ruling.Kept.{Kept}
-use Rattle.parser.specs.declared.ruling.Kept.the-variants as kept
+use Rattle.ruling.specs.declared.ruling.Sort.{Sort}
+use Rattle.ruling.specs.declared.ruling.Sort.the-variants.{Unset, Map, List as Listed}
+use Rattle.ruling.specs.declared.ruling.Awaited.{Awaited}
+use Rattle.ruling.specs.declared.ruling.Awaited.the-variants as awaited
+use Rattle.ruling.specs.declared.ruling.Kept.{Kept}
+use Rattle.ruling.specs.declared.ruling.Kept.the-variants as kept
 use Rattle.parser.specs.declared.state.Section.{Section}
 use Rattle.parser.specs.declared.state.State.{State}
 use Rattle.batch.specs.Words.{flag, wordsOf, stateIn, readable}

@@ -5,10 +5,10 @@ use mathlib.Core.List.{List, _++_}
 use mathlib.Core.Bool.{Bool, true, false, not, _&&_}
 use lib.Dec.{eqb}
 use lib.ListN.{length, drop}
-use Rattle.parser.specs.Ruling.{valuesOf}
+use Rattle.ruling.specs.Ruling.{valuesOf}
 use Rattle.parser.specs.Step.{stepOf}
-use Rattle.parser.specs.declared.ruling.Answer.{Answer}
-use Rattle.parser.specs.declared.ruling.Answer.the-variants.{End, Token, Refused}
+use Rattle.ruling.specs.declared.ruling.Answer.{Answer}
+use Rattle.ruling.specs.declared.ruling.Answer.the-variants.{End, Token, Refused}
 use Rattle.parser.specs.declared.state.State.{State}
 use Rattle.batch.specs.Rows.{Steps, taken, Batch, takenBatch, batchBy}
 use Rattle.batch.specs.ParserWords.{parserWords, parserIn, parserReadable}

@@ -7,13 +7,13 @@ use crate::rows::UNFIT;
 use crate::rows::bare_row;
 use crate::rows::token_row;
 use crate::words::paste;
-use parser::Answer;
 use parser::State;
 use parser::Step;
+use ruling::Answer;
 ghost use mathlib.Core.Path.{_≡_};
 ghost use Prim.Native.Nat.{_/_, _^_, _<_};
 ghost use lib.ListN.{length};
-ghost use Rattle.parser.specs.Ruling.{valuesOf};
+ghost use Rattle.ruling.specs.Ruling.{valuesOf};
 ghost use Rattle.batch.specs.Rows.{rowOf, rowsIn, taken};
 ghost use Rattle.batch.specs.Parsing.{isUnfit, isStop, parsing, parseBatchOf};
 

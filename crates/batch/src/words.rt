@@ -1,7 +1,7 @@
 // A state in the words of a lent slice, in the order of specs/Words.
+use plan::Marks;
 use text::Part;
 use tokenizer::Held;
-use tokenizer::Marks;
 use tokenizer::State;
 ghost use mathlib.Core.Path.{_≡_};
 ghost use mathlib.Core.List.{_++_};

@@ -13,8 +13,8 @@ use Rattle.tokenizer.specs.Step.{bytesOf}
 use Rattle.tokenizer.specs.declared.token.Token.the-variants as token
 use Rattle.reading.specs.Claims.{Within}
 use Rattle.parser.specs.Lists.{topEntries}
-use Rattle.parser.specs.declared.ruling.Answer.{Answer}
-use Rattle.parser.specs.declared.ruling.Answer.the-variants as answer
+use Rattle.ruling.specs.declared.ruling.Answer.{Answer}
+use Rattle.ruling.specs.declared.ruling.Answer.the-variants as answer
 use Rattle.parsing.specs.Claims.{Fits, All}
 use Rattle.parsing.proofs.Claimed.{fit}
 use Rattle.parsing.proofs.Ordered.{Ordered, parse-ordered}

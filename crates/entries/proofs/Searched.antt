@@ -12,8 +12,8 @@ use Rattle.tokenizer.specs.Step.{bytesOf}
 use Rattle.tokenizer.specs.declared.token.Token.{Token}
 use Rattle.tokenizer.specs.declared.token.Token.the-variants as token
 use Rattle.parser.specs.Lists.{topEntries, parse}
-use Rattle.parser.specs.declared.ruling.Answer.{Answer}
-use Rattle.parser.specs.declared.ruling.Answer.the-variants as answer
+use Rattle.ruling.specs.declared.ruling.Answer.{Answer}
+use Rattle.ruling.specs.declared.ruling.Answer.the-variants as answer
 use Rattle.parsing.proofs.Ordered.{Ordered, last, more}
 use Rattle.entries.specs.Entries.{Key, keysOf, refusalIn, extent, entriesOf, isSame, firstOf, lookUp}
 use Rattle.entries.specs.Search.{closedAt, onTopKey, onKey, onToken, onAnswer}

@@ -6,11 +6,11 @@ use mathlib.Core.Bool.{true, false, false≢true}
 use native.Mathlib.Omega.{arith}
 use lib.ListN.{length}
 use Rattle.text.proofs.Cases.{by-bool}
-use Rattle.parser.specs.Ruling.{valuesOf}
+use Rattle.ruling.specs.Ruling.{valuesOf}
 use Rattle.parser.specs.Step.{stepOf, fresh}
 use Rattle.parser.specs.Lists.{isEnd}
-use Rattle.parser.specs.declared.ruling.Answer.{Answer}
-use Rattle.parser.specs.declared.ruling.Answer.the-variants as answer
+use Rattle.ruling.specs.declared.ruling.Answer.{Answer}
+use Rattle.ruling.specs.declared.ruling.Answer.the-variants as answer
 use Rattle.parser.specs.declared.state.State.{State}
 use Rattle.parser.specs.declared.state.Step.{Step}
 use Rattle.parser.proofs.Valued.{equal-steps}

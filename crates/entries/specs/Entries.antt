@@ -10,8 +10,8 @@ use Rattle.tokenizer.specs.Step.{bytesOf}
 use Rattle.tokenizer.specs.declared.token.Token.{Token}
 use Rattle.tokenizer.specs.declared.token.Token.the-variants as token
 use Rattle.parser.specs.Lists.{topEntries, parse}
-use Rattle.parser.specs.declared.ruling.Answer.{Answer}
-use Rattle.parser.specs.declared.ruling.Answer.the-variants as answer
+use Rattle.ruling.specs.declared.ruling.Answer.{Answer}
+use Rattle.ruling.specs.declared.ruling.Answer.the-variants as answer
 use Rattle.entries.specs.declared.search.Found.{Found}
 use Rattle.entries.specs.declared.search.Found.the-variants.{Nothing, At, Refused}
 

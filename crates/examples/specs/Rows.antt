@@ -6,7 +6,7 @@ use Rattle.tokenizer.specs.Lists.{tokens}
 use Rattle.tokenizer.specs.declared.token.Token.the-variants as token
 use Rattle.tokenizer.specs.declared.state.Answer.the-variants as came
 use Rattle.parser.specs.Lists.{parse}
-use Rattle.parser.specs.declared.ruling.Answer.the-variants as answer
+use Rattle.ruling.specs.declared.ruling.Answer.the-variants as answer
 use Rattle.rows.specs.Listing.{listingOf}
 use Rattle.unescape.specs.Meaning.{bytes, code, refused, entryMeaning, blockMeaning}
 use Prim.Native.Nat.{ℕ}

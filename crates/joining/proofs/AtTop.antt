@@ -14,17 +14,17 @@ use Rattle.tokenizer.specs.declared.state.State.{State as Tokenizer}
 use Rattle.reading.proofs.Sound.{Sound, fresh-sound}
 use Rattle.reading.proofs.Claimed.{sound-kept, sound-vouches}
 use Rattle.reading.proofs.Claimed.{ends as reading-ends}
-use Rattle.parser.specs.Ruling.{onToken, rulingOf}
+use Rattle.ruling.specs.Ruling.{onToken, rulingOf}
 use Rattle.parser.specs.Lists.{Stand, sortsAfter, Fed, standAfter, fedOnce, ruled, fedTwice, fedBy, feed, freshStand}
-use Rattle.parser.specs.declared.ruling.Sort.{Sort}
-use Rattle.parser.specs.declared.ruling.Sort.the-variants.{Unset}
-use Rattle.parser.specs.declared.ruling.Awaited.the-variants as awaited
-use Rattle.parser.specs.declared.ruling.Kept.{Kept}
-use Rattle.parser.specs.declared.ruling.Kept.the-variants as kept
-use Rattle.parser.specs.declared.ruling.Change.the-variants.{Keep}
-use Rattle.parser.specs.declared.ruling.Verdict.{Verdict}
-use Rattle.parser.specs.declared.ruling.Ruling.{Ruling}
-use Rattle.parser.specs.declared.ruling.Ruling.the-variants.{Says, End, Unfit}
+use Rattle.ruling.specs.declared.ruling.Sort.{Sort}
+use Rattle.ruling.specs.declared.ruling.Sort.the-variants.{Unset}
+use Rattle.ruling.specs.declared.ruling.Awaited.the-variants as awaited
+use Rattle.ruling.specs.declared.ruling.Kept.{Kept}
+use Rattle.ruling.specs.declared.ruling.Kept.the-variants as kept
+use Rattle.ruling.specs.declared.ruling.Change.the-variants.{Keep}
+use Rattle.ruling.specs.declared.ruling.Verdict.{Verdict}
+use Rattle.ruling.specs.declared.ruling.Ruling.{Ruling}
+use Rattle.ruling.specs.declared.ruling.Ruling.the-variants.{Says, End, Unfit}
 use Rattle.parsing.proofs.Claimed.{fresh-tied}
 use Rattle.parsing.proofs.Tokens.{step-told}
 use Rattle.parsing.proofs.Rulings.{stand, Tied, Settled, gives, stops, Outcome, once, twice, outcome}

@@ -24,14 +24,14 @@ use Rattle.tokenizer.specs.declared.token.Token.the-variants.{
 }
 use Rattle.tokenizer.specs.declared.state.Answer.{Answer as Came}
 use Rattle.tokenizer.specs.declared.state.Answer.the-variants as came
-use Rattle.parser.specs.Ruling.{clashes, onEntry, settled, afterEntry, afterHint, onToken, onEnd, rulingOf}
+use Rattle.ruling.specs.Ruling.{clashes, onEntry, settled, afterEntry, afterHint, onToken, onEnd, rulingOf}
 use Rattle.parser.specs.Lists.{Stand, feed, parsed, freshStand, refusedIn, entrySort}
-use Rattle.parser.specs.declared.ruling.Answer.{Answer}
-use Rattle.parser.specs.declared.ruling.Answer.the-variants as answer
-use Rattle.parser.specs.declared.ruling.Sort.{Sort}
-use Rattle.parser.specs.declared.ruling.Sort.the-variants.{Unset, Map, List as Listed}
-use Rattle.parser.specs.declared.ruling.Awaited.{Awaited}
-use Rattle.parser.specs.declared.ruling.Awaited.the-variants as awaited
+use Rattle.ruling.specs.declared.ruling.Answer.{Answer}
+use Rattle.ruling.specs.declared.ruling.Answer.the-variants as answer
+use Rattle.ruling.specs.declared.ruling.Sort.{Sort}
+use Rattle.ruling.specs.declared.ruling.Sort.the-variants.{Unset, Map, List as Listed}
+use Rattle.ruling.specs.declared.ruling.Awaited.{Awaited}
+use Rattle.ruling.specs.declared.ruling.Awaited.the-variants as awaited
 use Rattle.joining.specs.Joined.{numberOf}
 
 -- a stand at the top level

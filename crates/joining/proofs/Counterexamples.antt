@@ -5,15 +5,15 @@ use mathlib.Core.List.{List, [], _∷_, _++_}
 use mathlib.Core.Bool.{true}
 use native.Mathlib.Omega.{arith}
 use lib.ListN.{length}
-use Rattle.tokenizer.specs.Scans.{breaks}
+use Rattle.plan.specs.Scans.{breaks}
 use Rattle.tokenizer.specs.Lists.{tokens}
 use Rattle.tokenizer.specs.declared.token.Token.the-variants.{Newline, Comment, Indent, Outdent, MapKey, NoValue}
 use Rattle.tokenizer.specs.declared.state.Answer.{Answer}
 use Rattle.tokenizer.specs.declared.state.Answer.the-variants.{Token}
 use Rattle.tokenizer.proofs.Examples.{part, rules}
 use Rattle.parser.specs.Lists.{parse}
-use Rattle.parser.specs.declared.ruling.Answer.{Answer as Said}
-use Rattle.parser.specs.declared.ruling.Answer.the-variants.{Token as said, Refused as refuses}
+use Rattle.ruling.specs.declared.ruling.Answer.{Answer as Said}
+use Rattle.ruling.specs.declared.ruling.Answer.the-variants.{Token as said, Refused as refuses}
 use Rattle.parser.proofs.Examples.{rules as parseRules}
 use Rattle.joining.specs.Raising.{raisePart, raiseToken, raise, raised}
 use Rattle.joining.specs.Tokens.{Closed, topLevel}

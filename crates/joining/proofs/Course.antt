@@ -11,18 +11,18 @@ use lib.Seq.{drop-drop}
 use Rattle.text.specs.Bytes.{isBreak, breakSize, countWhile, lineEnd}
 use Rattle.text.specs.declared.bytes.Part.{Part}
 use Rattle.text.specs.declared.trimming.Dropped.the-variants.{Blanks}
-use Rattle.tokenizer.specs.Scans.{plainEnd, checkedOf, breaks, beginsHint}
-use Rattle.tokenizer.specs.Plan.{hintMarks, planNewline, planComment, planItem, planKey, planPlain, planMultiline, planOutdent}
+use Rattle.plan.specs.Scans.{plainEnd, checkedOf, breaks, beginsHint}
+use Rattle.plan.specs.Plan.{hintMarks, planNewline, planComment, planItem, planKey, planPlain, planMultiline, planOutdent}
 use Rattle.tokenizer.specs.Step.{bytesOf, sizeOf, heldAfter, depthAfter, afterPlan, fresh}
-use Rattle.tokenizer.specs.declared.readers.Text.{Text}
-use Rattle.tokenizer.specs.declared.readers.Text.the-variants.{Good, Bad}
-use Rattle.tokenizer.specs.declared.plan.Marks.{Marks}
-use Rattle.tokenizer.specs.declared.plan.Change.{Change}
-use Rattle.tokenizer.specs.declared.plan.Change.the-variants.{Keep, Open, Close, Hold}
-use Rattle.tokenizer.specs.declared.plan.Plan.{Plan}
+use Rattle.plan.specs.declared.readers.Text.{Text}
+use Rattle.plan.specs.declared.readers.Text.the-variants.{Good, Bad}
+use Rattle.plan.specs.declared.plan.Marks.{Marks}
+use Rattle.plan.specs.declared.plan.Change.{Change}
+use Rattle.plan.specs.declared.plan.Change.the-variants.{Keep, Open, Close, Hold}
+use Rattle.plan.specs.declared.plan.Plan.{Plan}
 use Rattle.tokenizer.specs.declared.state.Held.the-variants.{Nothing}
 use Rattle.tokenizer.specs.declared.state.State.{State}
-use Rattle.tokenizer.proofs.PlanCases.{Entry, later, first}
+use Rattle.plan.proofs.PlanCases.{Entry, later, first}
 use Rattle.tokenizer.proofs.Bounds.{rest-size}
 use Rattle.reading.proofs.Weight.{deeper-pos}
 use Rattle.reading.proofs.Sound.{restOf, indentAt, planOf, StepCases, step-cases, step-bounded, Sound, fresh-sound, after-sound}

@@ -10,7 +10,7 @@ use lib.ListN.{length, length-append}
 use borrow.Author.Tests.{ne-eqb}
 use Rattle.text.proofs.Cases.{by-bool, clash}
 use Rattle.tokenizer.specs.Token.{lineOf}
-use Rattle.tokenizer.specs.Scans.{breaks}
+use Rattle.plan.specs.Scans.{breaks}
 use Rattle.tokenizer.specs.Lists.{tokens}
 use Rattle.tokenizer.specs.declared.token.Token.{Token}
 use Rattle.tokenizer.specs.declared.token.Token.the-variants.{
@@ -28,15 +28,15 @@ use Rattle.tokenizer.specs.declared.token.Token.the-variants.{
 use Rattle.tokenizer.specs.declared.state.Answer.{Answer as Came}
 use Rattle.tokenizer.specs.declared.state.Answer.the-variants as came
 use Rattle.reading.proofs.Claimed.{fit as reading-fit}
-use Rattle.parser.specs.Ruling.{clashes, rulingOf, onEnd}
+use Rattle.ruling.specs.Ruling.{clashes, rulingOf, onEnd}
 use Rattle.parser.specs.Lists.{Stand, feed, parsed, freshStand, parse, refusedIn, topEntries, entrySort, topSort}
-use Rattle.parser.specs.declared.ruling.Answer.{Answer}
-use Rattle.parser.specs.declared.ruling.Answer.the-variants as answer
-use Rattle.parser.specs.declared.ruling.Sort.{Sort}
-use Rattle.parser.specs.declared.ruling.Sort.the-variants.{Unset}
-use Rattle.parser.specs.declared.ruling.Change.the-variants.{Keep}
-use Rattle.parser.specs.declared.ruling.Awaited.{Awaited}
-use Rattle.parser.specs.declared.ruling.Awaited.the-variants as awaited
+use Rattle.ruling.specs.declared.ruling.Answer.{Answer}
+use Rattle.ruling.specs.declared.ruling.Answer.the-variants as answer
+use Rattle.ruling.specs.declared.ruling.Sort.{Sort}
+use Rattle.ruling.specs.declared.ruling.Sort.the-variants.{Unset}
+use Rattle.ruling.specs.declared.ruling.Change.the-variants.{Keep}
+use Rattle.ruling.specs.declared.ruling.Awaited.{Awaited}
+use Rattle.ruling.specs.declared.ruling.Awaited.the-variants as awaited
 use Rattle.parsing.specs.Claims.{Fits, All}
 use Rattle.parsing.proofs.Claimed.{parse-within}
 use Rattle.parsing.proofs.Claimed.{fit as parsing-fit}

@@ -8,13 +8,13 @@ use Rattle.text.proofs.Cases.{by-bool, clash}
 use Rattle.tokenizer.specs.declared.state.Answer.{Answer as Came}
 use Rattle.tokenizer.specs.declared.state.Answer.the-variants as came
 use Rattle.parser.specs.Lists.{Stand, Fed, standAfter, fedOnce, ruled, fedTwice, fedBy, feed, parsed, refusedIn}
-use Rattle.parser.specs.declared.ruling.Answer.{Answer}
-use Rattle.parser.specs.declared.ruling.Answer.the-variants as answer
-use Rattle.parser.specs.declared.ruling.Kept.{Kept}
-use Rattle.parser.specs.declared.ruling.Kept.the-variants as kept
-use Rattle.parser.specs.declared.ruling.Verdict.{Verdict}
-use Rattle.parser.specs.declared.ruling.Ruling.{Ruling}
-use Rattle.parser.specs.declared.ruling.Ruling.the-variants.{Says, End, Unfit}
+use Rattle.ruling.specs.declared.ruling.Answer.{Answer}
+use Rattle.ruling.specs.declared.ruling.Answer.the-variants as answer
+use Rattle.ruling.specs.declared.ruling.Kept.{Kept}
+use Rattle.ruling.specs.declared.ruling.Kept.the-variants as kept
+use Rattle.ruling.specs.declared.ruling.Verdict.{Verdict}
+use Rattle.ruling.specs.declared.ruling.Ruling.{Ruling}
+use Rattle.ruling.specs.declared.ruling.Ruling.the-variants.{Says, End, Unfit}
 use Rattle.joining.proofs.Tops.{Turn}
 use Rattle.joining.proofs.Ruled.{Keeps, Turns, ruling-turns}
 

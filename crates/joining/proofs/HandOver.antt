@@ -13,10 +13,10 @@ use Rattle.text.specs.Bytes.{countWhile}
 use Rattle.text.specs.Trimming.{dropped}
 use Rattle.text.specs.declared.bytes.Part.{Part}
 use Rattle.text.proofs.Cases.{on-cond}
-use Rattle.tokenizer.specs.Scans.{blanks, relationOf, breaks}
-use Rattle.tokenizer.specs.Plan.{planEntry, planOutdent, cleared, planIndented, planOn, planAt}
+use Rattle.plan.specs.Scans.{blanks, relationOf, breaks}
+use Rattle.plan.specs.Plan.{planEntry, planOutdent, cleared, planIndented, planOn, planAt}
 use Rattle.tokenizer.specs.Step.{bytesOf, noPart, sizeOf, innerOf, planWith, afterPlan, stepWith, stepRule, fresh}
-use Rattle.tokenizer.specs.declared.plan.Marks.{Marks}
+use Rattle.plan.specs.declared.plan.Marks.{Marks}
 use Rattle.tokenizer.specs.declared.token.Token.the-variants as token
 use Rattle.tokenizer.specs.declared.state.Answer.the-variants.{Token}
 use Rattle.tokenizer.specs.declared.state.State.{State}

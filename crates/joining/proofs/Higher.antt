@@ -10,14 +10,14 @@ use native.Mathlib.Omega.{arith}
 use lib.ListN.{length, getD}
 use lib.Seq.{drop-append-add}
 use Rattle.text.specs.declared.bytes.Part.{Part}
-use Rattle.tokenizer.specs.Scans.{blanks, breaks}
+use Rattle.plan.specs.Scans.{blanks, breaks}
 use Rattle.tokenizer.specs.Step.{bytesOf, noPart, indentOf, sizeOf, innerOf, heldAfter, depthAfter, answerOf, planWith, afterPlan, stepWith, stepRule, stepOf}
 use Rattle.tokenizer.specs.Lists.{isEnd, Reads, ends, says}
-use Rattle.tokenizer.specs.declared.plan.Change.{Change}
-use Rattle.tokenizer.specs.declared.plan.Change.the-variants.{Keep, Open, Close, Hold}
-use Rattle.tokenizer.specs.declared.plan.Plan.{Plan}
-use Rattle.tokenizer.specs.declared.plan.Says.{Says}
-use Rattle.tokenizer.specs.declared.plan.Says.the-variants.{
+use Rattle.plan.specs.declared.plan.Change.{Change}
+use Rattle.plan.specs.declared.plan.Change.the-variants.{Keep, Open, Close, Hold}
+use Rattle.plan.specs.declared.plan.Plan.{Plan}
+use Rattle.plan.specs.declared.plan.Says.{Says}
+use Rattle.plan.specs.declared.plan.Says.the-variants.{
   End,
   Newline,
   Comment,

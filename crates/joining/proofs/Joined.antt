@@ -9,8 +9,8 @@ use native.Mathlib.Omega.{arith}
 use lib.ListN.{length, length-drop, length-append}
 use lib.Seq.{drop-append-seam}
 use Rattle.text.specs.declared.bytes.Part.{Part}
-use Rattle.tokenizer.specs.Scans.{breaksAfter, breaks}
-use Rattle.tokenizer.specs.Plan.{planOutdent}
+use Rattle.plan.specs.Scans.{breaksAfter, breaks}
+use Rattle.plan.specs.Plan.{planOutdent}
 use Rattle.tokenizer.specs.Step.{sizeOf, afterPlan, stepWith, stepRule, stepOf, fresh}
 use Rattle.tokenizer.specs.Lists.{isEnd, Reads, ends, says, run, tokens}
 use Rattle.tokenizer.specs.declared.token.Token.the-variants as token
@@ -18,7 +18,7 @@ use Rattle.tokenizer.specs.declared.state.Answer.{Answer}
 use Rattle.tokenizer.specs.declared.state.Answer.the-variants.{End, Token, Refused}
 use Rattle.tokenizer.specs.declared.state.State.{State}
 use Rattle.tokenizer.specs.declared.state.Step.{Step}
-use Rattle.tokenizer.proofs.PlanCases.{planClose}
+use Rattle.plan.proofs.PlanCases.{planClose}
 use Rattle.tokenizer.proofs.Bounds.{rest-size}
 use Rattle.reading.proofs.Sound.{restOf, indentAt, planOf, answerAt, step-cases, Sound, fresh-sound, step-sound}
 use Rattle.reading.proofs.Answers.{Vouched, plan-vouches}

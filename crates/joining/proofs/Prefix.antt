@@ -11,8 +11,8 @@ use Rattle.text.specs.Bytes.{isBlank, isBreak, countWhile, lineEnd}
 use Rattle.text.specs.Trimming.{dropped}
 use Rattle.text.specs.declared.bytes.Part.{Part}
 use Rattle.text.proofs.Cases.{by-bool}
-use Rattle.tokenizer.specs.Scans.{blanks, relationOf, textEnd, beginsHint, endsInBreak, linesOf}
-use Rattle.tokenizer.specs.Plan.{
+use Rattle.plan.specs.Scans.{blanks, relationOf, textEnd, beginsHint, endsInBreak, linesOf}
+use Rattle.plan.specs.Plan.{
   planNewline,
   planComment,
   planKey,
@@ -29,11 +29,11 @@ use Rattle.tokenizer.specs.Plan.{
   planAt,
 }
 use Rattle.tokenizer.specs.Step.{bytesOf, noPart, indentOf, sizeOf, innerOf, planWith, stepWith, stepRule}
-use Rattle.tokenizer.specs.declared.plan.Marks.{Marks}
+use Rattle.plan.specs.declared.plan.Marks.{Marks}
 use Rattle.tokenizer.specs.declared.state.Held.{Held}
 use Rattle.tokenizer.specs.declared.state.Held.the-variants.{Nothing, At}
 use Rattle.tokenizer.specs.declared.state.State.{State}
-use Rattle.tokenizer.proofs.Plans.{lines-le}
+use Rattle.plan.proofs.Plans.{lines-le}
 use Rattle.reading.specs.Claims.{Within}
 use Rattle.reading.proofs.Texts.{Indentation, no-indentation}
 use Rattle.reading.proofs.Sound.{restOf, indentAt, Sound, indent-sound}

@@ -10,8 +10,8 @@ use borrow.Author.Tests.{eqb-true, eqb-false}
 use Rattle.text.specs.declared.bytes.Part.{Part}
 use Rattle.text.proofs.Cases.{by-bool}
 use Rattle.tokenizer.specs.Step.{noPart, indentsAfter, depthAfter}
-use Rattle.tokenizer.specs.declared.plan.Change.{Change}
-use Rattle.tokenizer.specs.declared.plan.Change.the-variants.{Keep, Open, Close, Hold}
+use Rattle.plan.specs.declared.plan.Change.{Change}
+use Rattle.plan.specs.declared.plan.Change.the-variants.{Keep, Open, Close, Hold}
 
 -- the first n of each
 abbrev pub Pairs : (Part → Part → Type 0) → List Part → List Part → ℕ → Type 0

@@ -23,15 +23,15 @@ use Rattle.tokenizer.specs.declared.token.Token.the-variants.{
   MultilineValue,
   NoValue,
 }
-use Rattle.parser.specs.Ruling.{clashes}
+use Rattle.ruling.specs.Ruling.{clashes}
 use Rattle.parser.specs.Lists.{innermost, sortsAfter, topEntries, entrySort, sortOf, topSort}
-use Rattle.parser.specs.declared.ruling.Answer.{Answer}
-use Rattle.parser.specs.declared.ruling.Answer.the-variants as answer
-use Rattle.parser.specs.declared.ruling.Sort.{Sort}
-use Rattle.parser.specs.declared.ruling.Sort.the-variants.{Unset, Map, List as Listed}
-use Rattle.parser.specs.declared.ruling.Innermost.the-variants.{Of}
-use Rattle.parser.specs.declared.ruling.Change.{Change}
-use Rattle.parser.specs.declared.ruling.Change.the-variants.{Keep, Fix, Open, Close}
+use Rattle.ruling.specs.declared.ruling.Answer.{Answer}
+use Rattle.ruling.specs.declared.ruling.Answer.the-variants as answer
+use Rattle.ruling.specs.declared.ruling.Sort.{Sort}
+use Rattle.ruling.specs.declared.ruling.Sort.the-variants.{Unset, Map, List as Listed}
+use Rattle.ruling.specs.declared.ruling.Innermost.the-variants.{Of}
+use Rattle.ruling.specs.declared.ruling.Change.{Change}
+use Rattle.ruling.specs.declared.ruling.Change.the-variants.{Keep, Fix, Open, Close}
 
 -- an answer that is no entry and neither opens nor closes a section; one that is a key or an item
 abbrev pub Plain : Answer → Type 0

@@ -6,17 +6,17 @@ use mathlib.Core.List.{List, [], _∷_, _++_, map}
 use mathlib.Core.Bool.{Bool, true, false, cond}
 use lib.ListN.{length}
 use Rattle.tokenizer.specs.Token.{lineOf}
-use Rattle.tokenizer.specs.Scans.{breaks}
+use Rattle.plan.specs.Scans.{breaks}
 use Rattle.tokenizer.specs.Lists.{tokens}
 use Rattle.tokenizer.specs.declared.token.Token.{Token}
 use Rattle.tokenizer.specs.declared.state.Answer.{Answer as Came}
 use Rattle.tokenizer.specs.declared.state.Answer.the-variants as came
-use Rattle.parser.specs.Ruling.{clashes}
+use Rattle.ruling.specs.Ruling.{clashes}
 use Rattle.parser.specs.Lists.{parse, refusedIn, entrySort, topSort}
-use Rattle.parser.specs.declared.ruling.Sort.{Sort}
-use Rattle.parser.specs.declared.ruling.Sort.the-variants.{Unset, Map, List as Listed}
-use Rattle.parser.specs.declared.ruling.Answer.{Answer}
-use Rattle.parser.specs.declared.ruling.Answer.the-variants as answer
+use Rattle.ruling.specs.declared.ruling.Sort.{Sort}
+use Rattle.ruling.specs.declared.ruling.Sort.the-variants.{Unset, Map, List as Listed}
+use Rattle.ruling.specs.declared.ruling.Answer.{Answer}
+use Rattle.ruling.specs.declared.ruling.Answer.the-variants as answer
 use Rattle.joining.specs.Raising.{raiseToken, raised}
 use Rattle.joining.specs.Tokens.{Closed, topLevel}
 use Rattle.joining.specs.Alike.{Alike}

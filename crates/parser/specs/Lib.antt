@@ -1,3 +1,2 @@
-pub mod Ruling
 pub mod Step
 pub mod Lists

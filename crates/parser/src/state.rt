@@ -1,17 +1,17 @@
 // The parser's state by value, and the step over it.
-use crate::ruling::Answer;
-use crate::ruling::Awaited;
-use crate::ruling::Change;
-use crate::ruling::Innermost;
-use crate::ruling::Kept;
-use crate::ruling::Ruling;
-use crate::ruling::Sort;
-use crate::ruling::Verdict;
-use crate::ruling::rule;
+use ruling::Answer;
+use ruling::Awaited;
+use ruling::Change;
+use ruling::Innermost;
+use ruling::Kept;
+use ruling::Ruling;
+use ruling::Sort;
+use ruling::Verdict;
+use ruling::rule;
 ghost use mathlib.Core.Path.{_≡_};
 ghost use Prim.Native.Nat.{_-_, _≤_, _<_};
 ghost use lib.ListN.{set};
-ghost use Rattle.parser.specs.Ruling.{valuesOf};
+ghost use Rattle.ruling.specs.Ruling.{valuesOf};
 ghost use Rattle.parser.specs.Step.{
   noSort,
   ChangeFits,

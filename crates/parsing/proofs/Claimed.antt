@@ -15,8 +15,8 @@ use Rattle.reading.proofs.Sound.{fresh-sound}
 use Rattle.reading.proofs.Claimed.{ends as reading-ends}
 use Rattle.parser.specs.Step.{fresh}
 use Rattle.parser.specs.Lists.{isEnd, Parses, ends as at-end, says, ParseList, over, read, parsed, freshStand, parse}
-use Rattle.parser.specs.declared.ruling.Answer.{Answer}
-use Rattle.parser.specs.declared.ruling.Answer.the-variants as answer
+use Rattle.ruling.specs.declared.ruling.Answer.{Answer}
+use Rattle.ruling.specs.declared.ruling.Answer.the-variants as answer
 use Rattle.parser.specs.declared.state.State.{State}
 use Rattle.parser.specs.declared.state.Step.{Step}
 use Rattle.parsing.specs.Claims.{Ends, Lists, Fit}

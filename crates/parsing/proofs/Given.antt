@@ -15,17 +15,17 @@ use Rattle.tokenizer.specs.declared.token.Token.the-variants.{
   MultilineValue,
   NoValue,
 }
-use Rattle.parser.specs.Ruling.{givesOn, refuses, noValue, clashes, onEntry, onOutdent, onIndent, settled, afterEntry, afterHint, onToken}
-use Rattle.parser.specs.declared.ruling.Sort.{Sort}
-use Rattle.parser.specs.declared.ruling.Sort.the-variants.{Map, List}
-use Rattle.parser.specs.declared.ruling.Awaited.{Awaited}
-use Rattle.parser.specs.declared.ruling.Awaited.the-variants as awaited
-use Rattle.parser.specs.declared.ruling.Innermost.{Innermost}
-use Rattle.parser.specs.declared.ruling.Innermost.the-variants.{Missing, Of}
-use Rattle.parser.specs.declared.ruling.Kept.the-variants as kept
-use Rattle.parser.specs.declared.ruling.Change.{Change}
-use Rattle.parser.specs.declared.ruling.Ruling.{Ruling}
-use Rattle.parser.specs.declared.ruling.Ruling.the-variants.{Unfit}
+use Rattle.ruling.specs.Ruling.{givesOn, refuses, noValue, clashes, onEntry, onOutdent, onIndent, settled, afterEntry, afterHint, onToken}
+use Rattle.ruling.specs.declared.ruling.Sort.{Sort}
+use Rattle.ruling.specs.declared.ruling.Sort.the-variants.{Map, List}
+use Rattle.ruling.specs.declared.ruling.Awaited.{Awaited}
+use Rattle.ruling.specs.declared.ruling.Awaited.the-variants as awaited
+use Rattle.ruling.specs.declared.ruling.Innermost.{Innermost}
+use Rattle.ruling.specs.declared.ruling.Innermost.the-variants.{Missing, Of}
+use Rattle.ruling.specs.declared.ruling.Kept.the-variants as kept
+use Rattle.ruling.specs.declared.ruling.Change.{Change}
+use Rattle.ruling.specs.declared.ruling.Ruling.{Ruling}
+use Rattle.ruling.specs.declared.ruling.Ruling.the-variants.{Unfit}
 
 -- a ruling on the token x
 pub data Given (x : Token) : Ruling → Type 0 where

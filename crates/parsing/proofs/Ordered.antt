@@ -10,14 +10,14 @@ use Rattle.reading.proofs.Sound.{fresh-sound}
 use Rattle.reading.proofs.Claimed.{ends as reading-ends}
 use Rattle.reading.proofs.Places.{reached, Placed, reads-placed}
 use Rattle.reading.proofs.Places as places
-use Rattle.parser.specs.Ruling.{onToken, onEnd, rulingOf}
+use Rattle.ruling.specs.Ruling.{onToken, onEnd, rulingOf}
 use Rattle.parser.specs.Lists.{Stand, fedOnce, fedBy, feed, parsed, parse}
-use Rattle.parser.specs.declared.ruling.Answer.{Answer}
-use Rattle.parser.specs.declared.ruling.Answer.the-variants as answer
-use Rattle.parser.specs.declared.ruling.Sort.{Sort}
-use Rattle.parser.specs.declared.ruling.Awaited.{Awaited}
-use Rattle.parser.specs.declared.ruling.Awaited.the-variants as awaited
-use Rattle.parser.specs.declared.ruling.Ruling.{Ruling}
+use Rattle.ruling.specs.declared.ruling.Answer.{Answer}
+use Rattle.ruling.specs.declared.ruling.Answer.the-variants as answer
+use Rattle.ruling.specs.declared.ruling.Sort.{Sort}
+use Rattle.ruling.specs.declared.ruling.Awaited.{Awaited}
+use Rattle.ruling.specs.declared.ruling.Awaited.the-variants as awaited
+use Rattle.ruling.specs.declared.ruling.Ruling.{Ruling}
 use Rattle.parsing.proofs.Rulings.{stand}
 use Rattle.parsing.proofs.Steps.{going}
 use Rattle.parsing.proofs.Claimed.{parse-within}

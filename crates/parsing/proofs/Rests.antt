@@ -7,7 +7,7 @@ use native.Mathlib.Omega.{arith}
 use lib.ListN.{length}
 use Rattle.parser.specs.Step.{stepOf, fresh}
 use Rattle.parser.specs.Lists.{isEnd, Parses, ends, says, parse}
-use Rattle.parser.specs.declared.ruling.Answer.{Answer}
+use Rattle.ruling.specs.declared.ruling.Answer.{Answer}
 use Rattle.parser.specs.declared.state.State.{State}
 use Rattle.parser.specs.declared.state.Step.{Step}
 use Rattle.parsing.specs.Claims.{Fits, All}

@@ -27,7 +27,7 @@ use Rattle.tokenizer.specs.declared.state.Answer.the-variants as came
 use Rattle.tokenizer.specs.declared.state.State.{State as Tokenizer}
 use Rattle.reading.specs.Claims.{Text, TokenFits as ReadFits}
 use Rattle.reading.proofs.Answers.{Vouched}
-use Rattle.parser.specs.Ruling.{
+use Rattle.ruling.specs.Ruling.{
   givesOn,
   refuses,
   noValue,
@@ -42,15 +42,15 @@ use Rattle.parser.specs.Ruling.{
   rulingOf,
 }
 use Rattle.parser.specs.Lists.{Stand, innermost, sortsAfter, ruled}
-use Rattle.parser.specs.declared.ruling.Sort.{Sort}
-use Rattle.parser.specs.declared.ruling.Sort.the-variants.{Map, List as Listed}
-use Rattle.parser.specs.declared.ruling.Awaited.{Awaited}
-use Rattle.parser.specs.declared.ruling.Awaited.the-variants as awaited
-use Rattle.parser.specs.declared.ruling.Innermost.{Innermost}
-use Rattle.parser.specs.declared.ruling.Kept.the-variants as kept
-use Rattle.parser.specs.declared.ruling.Change.{Change}
-use Rattle.parser.specs.declared.ruling.Change.the-variants.{Keep, Fix, Open, Close}
-use Rattle.parser.specs.declared.ruling.Ruling.{Ruling}
+use Rattle.ruling.specs.declared.ruling.Sort.{Sort}
+use Rattle.ruling.specs.declared.ruling.Sort.the-variants.{Map, List as Listed}
+use Rattle.ruling.specs.declared.ruling.Awaited.{Awaited}
+use Rattle.ruling.specs.declared.ruling.Awaited.the-variants as awaited
+use Rattle.ruling.specs.declared.ruling.Innermost.{Innermost}
+use Rattle.ruling.specs.declared.ruling.Kept.the-variants as kept
+use Rattle.ruling.specs.declared.ruling.Change.{Change}
+use Rattle.ruling.specs.declared.ruling.Change.the-variants.{Keep, Fix, Open, Close}
+use Rattle.ruling.specs.declared.ruling.Ruling.{Ruling}
 use Rattle.parsing.specs.Claims.{TokenFits}
 use Rattle.parsing.proofs.Tokens.{Due, MultilineDue, room, Early, Turned, TokenTold, Told}
 

@@ -10,9 +10,9 @@ use lib.Seq.{getD-set-same, getD-set-other}
 use borrow.Author.Tests.{lt-ltb}
 use Rattle.parser.specs.Step.{noSort, innermostOf, sectionsAfter, countAfter}
 use Rattle.parser.specs.Lists.{innermost, sortsAfter}
-use Rattle.parser.specs.declared.ruling.Sort.{Sort}
-use Rattle.parser.specs.declared.ruling.Change.{Change}
-use Rattle.parser.specs.declared.ruling.Change.the-variants.{Keep, Fix, Open, Close}
+use Rattle.ruling.specs.declared.ruling.Sort.{Sort}
+use Rattle.ruling.specs.declared.ruling.Change.{Change}
+use Rattle.ruling.specs.declared.ruling.Change.the-variants.{Keep, Fix, Open, Close}
 use Rattle.parser.specs.declared.state.Section.{Section}
 
 -- the first n sections have these sorts

@@ -14,17 +14,17 @@ use Rattle.tokenizer.specs.declared.state.Answer.the-variants as came
 use Rattle.tokenizer.specs.declared.state.State.{State as Tokenizer}
 use Rattle.reading.proofs.Sound.{Sound, sound-fit}
 use Rattle.reading.proofs.Claimed.{sound-kept, sound-vouches}
-use Rattle.parser.specs.Ruling.{onToken, onEnd, rulingOf}
+use Rattle.ruling.specs.Ruling.{onToken, onEnd, rulingOf}
 use Rattle.parser.specs.Step.{fullOf, sectionsAfter, countAfter, afterVerdict, onRuling, stepWith, stepKept, stepOf}
 use Rattle.parser.specs.Lists.{isEnd, Parses, Stand, innermost, sortsAfter, Fed, fedOnce, fedBy, feed, parsed}
 use Rattle.parser.specs.Lists as lists
-use Rattle.parser.specs.declared.ruling.Answer.{Answer}
-use Rattle.parser.specs.declared.ruling.Answer.the-variants as answer
-use Rattle.parser.specs.declared.ruling.Sort.{Sort}
-use Rattle.parser.specs.declared.ruling.Awaited.{Awaited}
-use Rattle.parser.specs.declared.ruling.Awaited.the-variants as awaited
-use Rattle.parser.specs.declared.ruling.Kept.the-variants as kept
-use Rattle.parser.specs.declared.ruling.Ruling.{Ruling}
+use Rattle.ruling.specs.declared.ruling.Answer.{Answer}
+use Rattle.ruling.specs.declared.ruling.Answer.the-variants as answer
+use Rattle.ruling.specs.declared.ruling.Sort.{Sort}
+use Rattle.ruling.specs.declared.ruling.Awaited.{Awaited}
+use Rattle.ruling.specs.declared.ruling.Awaited.the-variants as awaited
+use Rattle.ruling.specs.declared.ruling.Kept.the-variants as kept
+use Rattle.ruling.specs.declared.ruling.Ruling.{Ruling}
 use Rattle.parser.specs.declared.state.Section.{Section}
 use Rattle.parser.specs.declared.state.State.{State}
 use Rattle.parsing.specs.Claims.{Fits, All}

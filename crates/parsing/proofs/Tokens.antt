@@ -15,14 +15,14 @@ use Rattle.text.proofs.Front.{break-pos}
 use Rattle.text.specs.declared.bytes.Part.{Part}
 use Rattle.text.specs.Bytes.{lineEnd}
 use Rattle.text.specs.declared.trimming.Dropped.the-variants.{Blanks, BlanksAndBreaks}
-use Rattle.tokenizer.specs.Scans.{blanks, plainEnd, textEnd, checkedOf, extent, linesOf}
-use Rattle.tokenizer.specs.Plan.{said, withValue, hintMarks, cleared, planNewline, planComment, planItem, planKey, planPlain, planMultiline, planOutdent}
+use Rattle.plan.specs.Scans.{blanks, plainEnd, textEnd, checkedOf, extent, linesOf}
+use Rattle.plan.specs.Plan.{said, withValue, hintMarks, cleared, planNewline, planComment, planItem, planKey, planPlain, planMultiline, planOutdent}
 use Rattle.tokenizer.specs.Step.{bytesOf, sizeOf, afterPlan, stepWith, stepRule, stepOf}
 use Rattle.tokenizer.specs.Lists.{isEnd}
-use Rattle.tokenizer.specs.declared.readers.Text.{Text}
-use Rattle.tokenizer.specs.declared.readers.Text.the-variants.{Good, Bad}
-use Rattle.tokenizer.specs.declared.plan.Marks.{Marks}
-use Rattle.tokenizer.specs.declared.plan.Says.{Says}
+use Rattle.plan.specs.declared.readers.Text.{Text}
+use Rattle.plan.specs.declared.readers.Text.the-variants.{Good, Bad}
+use Rattle.plan.specs.declared.plan.Marks.{Marks}
+use Rattle.plan.specs.declared.plan.Says.{Says}
 use Rattle.tokenizer.specs.declared.token.Token.{Token}
 use Rattle.tokenizer.specs.declared.token.Token.the-variants.{
   Newline,
@@ -41,7 +41,7 @@ use Rattle.tokenizer.specs.declared.state.Answer.the-variants as answer
 use Rattle.tokenizer.specs.declared.state.Held.{Held}
 use Rattle.tokenizer.specs.declared.state.Held.the-variants.{Nothing, At}
 use Rattle.tokenizer.specs.declared.state.State.{State}
-use Rattle.tokenizer.proofs.PlanCases.{planHinted, Entry, later, first}
+use Rattle.plan.proofs.PlanCases.{planHinted, Entry, later, first}
 use Rattle.tokenizer.proofs.Bounds.{Bounded, rest-size}
 use Rattle.reading.proofs.Sound.{restOf, indentAt, answerAt, StepCases, step-cases, step-bounded, Sound, step-sound}
 use Rattle.reading.proofs.Weight.{count, heldSize, weight, other-pos, Turn, plan-turns}

@@ -7,8 +7,8 @@ use Rattle.tokenizer.specs.declared.token.Token.{Token}
 use Rattle.reading.specs.Claims.{PartsFit}
 use Rattle.parser.specs.Step.{fresh}
 use Rattle.parser.specs.Lists.{Parses, ParseList, parse}
-use Rattle.parser.specs.declared.ruling.Answer.{Answer}
-use Rattle.parser.specs.declared.ruling.Answer.the-variants as answer
+use Rattle.ruling.specs.declared.ruling.Answer.{Answer}
+use Rattle.ruling.specs.declared.ruling.Answer.the-variants as answer
 use Rattle.parser.specs.declared.state.State.{State}
 
 -- Claim 1, Ends. The parsing of a document of n bytes within the limit gives at most 2n answers, then End

@@ -8,8 +8,8 @@ use lib.ListN.{length}
 use Rattle.text.specs.declared.bytes.Part.{Part}
 use Rattle.tokenizer.specs.Step.{reach, answerOf, afterPlan, stepWith, stepRule, stepOf}
 use Rattle.tokenizer.specs.Lists.{isEnd, Reads, ends, says}
-use Rattle.tokenizer.specs.declared.plan.Says.{Says}
-use Rattle.tokenizer.specs.declared.plan.Says.the-variants as says
+use Rattle.plan.specs.declared.plan.Says.{Says}
+use Rattle.plan.specs.declared.plan.Says.the-variants as says
 use Rattle.tokenizer.specs.declared.token.Token.{Token as ReadToken}
 use Rattle.tokenizer.specs.declared.token.Token.the-variants as token
 use Rattle.tokenizer.specs.declared.state.Answer.{Answer}

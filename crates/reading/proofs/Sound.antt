@@ -27,15 +27,15 @@ use Rattle.tokenizer.specs.Step.{
   stepOf,
   fresh,
 }
-use Rattle.tokenizer.specs.declared.plan.Change.{Change}
-use Rattle.tokenizer.specs.declared.plan.Change.the-variants.{Keep, Open, Close, Hold}
-use Rattle.tokenizer.specs.declared.plan.Plan.{Plan}
-use Rattle.tokenizer.specs.declared.plan.Says.{Says}
+use Rattle.plan.specs.declared.plan.Change.{Change}
+use Rattle.plan.specs.declared.plan.Change.the-variants.{Keep, Open, Close, Hold}
+use Rattle.plan.specs.declared.plan.Plan.{Plan}
+use Rattle.plan.specs.declared.plan.Says.{Says}
 use Rattle.tokenizer.specs.declared.state.Answer.{Answer}
 use Rattle.tokenizer.specs.declared.state.Held.{Held}
 use Rattle.tokenizer.specs.declared.state.Held.the-variants.{Nothing, At}
 use Rattle.tokenizer.specs.declared.state.State.{State}
-use Rattle.tokenizer.proofs.PlanCases.{Cases, plan-cases}
+use Rattle.plan.proofs.PlanCases.{Cases, plan-cases}
 use Rattle.tokenizer.proofs.Bounds.{Bounded, plan-bounded}
 use Rattle.reading.specs.Claims.{Within}
 use Rattle.reading.proofs.Texts.{Indentation, no-indentation, indentation-at}

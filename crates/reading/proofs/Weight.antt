@@ -13,19 +13,19 @@ use Rattle.text.specs.Bytes.{isBreak, countWhile, lineEnd}
 use Rattle.text.specs.declared.bytes.Part.{Part}
 use Rattle.text.specs.declared.trimming.Dropped.the-variants.{Blanks}
 use Rattle.text.proofs.Cases.{by-bool, and-left, and-right}
-use Rattle.tokenizer.specs.Scans.{relationOf, stops, plainEnd, quotesEnd, textEnd, checkedOf, linesOf}
-use Rattle.tokenizer.specs.Plan.{planNewline, planComment, planItem, planKey, planPlain, withValue, hintMarks, planMultiline, planOutdent}
+use Rattle.plan.specs.Scans.{relationOf, stops, plainEnd, quotesEnd, textEnd, checkedOf, linesOf}
+use Rattle.plan.specs.Plan.{planNewline, planComment, planItem, planKey, planPlain, withValue, hintMarks, planMultiline, planOutdent}
 use Rattle.tokenizer.specs.Step.{bytesOf, indentOf, sizeOf, innerOf, afterPlan}
 use Rattle.tokenizer.specs.Lists.{isEnd}
-use Rattle.tokenizer.specs.declared.readers.Relation.the-variants.{Deeper, Other}
-use Rattle.tokenizer.specs.declared.readers.Text.{Text}
-use Rattle.tokenizer.specs.declared.readers.Text.the-variants.{Good, Bad}
-use Rattle.tokenizer.specs.declared.plan.Marks.{Marks}
-use Rattle.tokenizer.specs.declared.plan.Plan.{Plan}
+use Rattle.plan.specs.declared.readers.Relation.the-variants.{Deeper, Other}
+use Rattle.plan.specs.declared.readers.Text.{Text}
+use Rattle.plan.specs.declared.readers.Text.the-variants.{Good, Bad}
+use Rattle.plan.specs.declared.plan.Marks.{Marks}
+use Rattle.plan.specs.declared.plan.Plan.{Plan}
 use Rattle.tokenizer.specs.declared.state.Held.{Held}
 use Rattle.tokenizer.specs.declared.state.Held.the-variants.{Nothing, At}
 use Rattle.tokenizer.specs.declared.state.State.{State}
-use Rattle.tokenizer.proofs.PlanCases.{Content, Entry, later, first}
+use Rattle.plan.proofs.PlanCases.{Content, Entry, later, first}
 use Rattle.text.proofs.Front.{break-pos}
 use Rattle.tokenizer.proofs.Bounds.{Bounded}
 use Rattle.reading.proofs.Sound.{restOf, indentAt, planOf, answerAt, StepCases, step-cases, step-bounded, Sound}

@@ -6,11 +6,11 @@ use mathlib.Core.Bool.{Bool, true, false}
 use native.Mathlib.Omega.{arith}
 use lib.ListN.{length}
 use borrow.Author.Tests.{lt-ltb, le-ltb}
-use Rattle.parser.specs.Ruling.{valuesOf}
+use Rattle.ruling.specs.Ruling.{valuesOf}
 use Rattle.parser.specs.Step.{stepOf, fresh}
 use Rattle.parser.specs.Lists.{isEnd, parse}
-use Rattle.parser.specs.declared.ruling.Answer.{Answer}
-use Rattle.parser.specs.declared.ruling.Answer.the-variants.{Refused}
+use Rattle.ruling.specs.declared.ruling.Answer.{Answer}
+use Rattle.ruling.specs.declared.ruling.Answer.the-variants.{Refused}
 use Rattle.parser.specs.declared.state.State.{State}
 use Rattle.parser.proofs.Valued.{values-injective}
 use Rattle.parsing.proofs.Rests.{rest, Stands, fresh-stands, rest-end, rest-step, step-stands}

@@ -6,8 +6,8 @@ use lib.Dec.{ltb}
 use lib.ListN.{length}
 use Rattle.tokenizer.specs.Token.{Values, tokenValues}
 use Rattle.parser.specs.Lists.{parse}
-use Rattle.parser.specs.declared.ruling.Answer.{Answer}
-use Rattle.parser.specs.declared.ruling.Answer.the-variants.{End, Token, Refused}
+use Rattle.ruling.specs.declared.ruling.Answer.{Answer}
+use Rattle.ruling.specs.declared.ruling.Answer.the-variants.{End, Token, Refused}
 use Rattle.rows.specs.Text.{decimal}
 
 -- `line kind start end`, LF

@@ -2,9 +2,9 @@
 use crate::writing::put_number;
 use crate::writing::put_text;
 use batch::token_row;
-use parser::Answer;
 use parser::State;
 use parser::Step;
+use ruling::Answer;
 use tokenizer::Token;
 ghost use mathlib.Core.Path.{_≡_};
 ghost use Prim.Native.Nat.{_+_, _≤_, _<_, _^_};

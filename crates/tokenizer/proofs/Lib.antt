@@ -1,9 +1,4 @@
-pub mod Related
-pub mod Quotes
-pub mod Pieces
 pub mod Padding
-pub mod Plans
-pub mod PlanCases
 pub mod Fitness
 pub mod Bounds
 pub mod Steps

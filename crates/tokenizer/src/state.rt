@@ -1,17 +1,17 @@
 // The state by value, and the step over it.
-use crate::plan::Change;
-use crate::plan::Marks;
-use crate::plan::Plan;
-use crate::plan::Says;
-use crate::plan::plan_at;
-use crate::plan::shifted;
 use crate::token::Token;
+use plan::Change;
+use plan::Marks;
+use plan::Plan;
+use plan::Says;
+use plan::plan_at;
 use text::Dropped;
 use text::Part;
 ghost use mathlib.Core.Path.{_≡_};
 ghost use mathlib.Core.Bool.{true};
 ghost use Prim.Native.Nat.{_+_, _-_, _<_, _≤_, _^_};
 ghost use lib.ListN.{length, set};
+ghost use Rattle.plan.specs.Plan.{shiftedBy};
 ghost use Rattle.tokenizer.specs.Token.{valuesOf};
 ghost use Rattle.tokenizer.specs.Step.{
   indentOf,
@@ -101,6 +101,18 @@ fn indent_at(held: Held, place: usize, rest: &[u8]) -> Indentation
     }
 }
 
+// A part counted from the place, counted from the document's start.
+fn placed(place: usize, p: Part) -> Part
+    requires { ⌜ place + p .start < 2 ^ 64 ⌝ }
+    requires { ⌜ place + p .end < 2 ^ 64 ⌝ }
+    ensures { λ r. ⌜ r ≡ shiftedBy place p ⌝ }
+{
+    Part {
+        start: place + p.start,
+        end: place + p.end,
+    }
+}
+
 // What a plan says, with its line and its places.
 fn answered(says: Says, line: usize, place: usize, indent: Part) -> Answer
     requires { ⌜ place + reach says < 2 ^ 64 ⌝ }
@@ -109,17 +121,17 @@ fn answered(says: Says, line: usize, place: usize, indent: Part) -> Answer
     match says {
         Says::End => Answer::End,
         Says::Newline => Answer::Token(Token::Newline(line)),
-        Says::Comment(p) => Answer::Token(Token::Comment(line, shifted(place, p))),
+        Says::Comment(p) => Answer::Token(Token::Comment(line, placed(place, p))),
         Says::Indent => Answer::Token(Token::Indent(line)),
         Says::Outdent => Answer::Token(Token::Outdent(line)),
         Says::ListItem => Answer::Token(Token::ListItem(line)),
-        Says::MapKey(p) => Answer::Token(Token::MapKey(line, shifted(place, p))),
-        Says::Value(p) => Answer::Token(Token::Value(line, shifted(place, p))),
-        Says::MultilineHint(p) => Answer::Token(Token::MultilineHint(line, shifted(place, p))),
+        Says::MapKey(p) => Answer::Token(Token::MapKey(line, placed(place, p))),
+        Says::Value(p) => Answer::Token(Token::Value(line, placed(place, p))),
+        Says::MultilineHint(p) => Answer::Token(Token::MultilineHint(line, placed(place, p))),
         Says::MultilineValue(p) => Answer::Token(Token::MultilineValue(
             line,
             indent,
-            shifted(place, p),
+            placed(place, p),
         )),
         Says::Refused(n) => Answer::Refused(n, line),
     }

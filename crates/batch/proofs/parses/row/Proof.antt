@@ -1,7 +1,7 @@
 -- One answer for each variant; a refusal's number fits by the precondition.
 use mathlib.Core.Path.{ap}
 use native.Mathlib.Omega.{arith}
-use Rattle.parser.specs.Ruling.{valuesOf}
+use Rattle.ruling.specs.Ruling.{valuesOf}
 use borrow.Author.Needs.{needs}
 use Rattle.batch.proofs.parses.row.Statement.{statement}
 use Rattle.batch.proofs.parses.row.Tie as tie

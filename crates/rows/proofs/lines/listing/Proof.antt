@@ -5,7 +5,7 @@ use native.Mathlib.Omega.{arith}
 use lib.ListN.{length}
 use Rattle.parser.specs.Step.{stepOf}
 use Rattle.parser.specs.Lists.{isEnd}
-use Rattle.parser.specs.declared.ruling.Answer.the-variants.{Refused}
+use Rattle.ruling.specs.declared.ruling.Answer.the-variants.{Refused}
 use Rattle.parser.proofs.Valued.{values-injective}
 use Rattle.parsing.proofs.Rests.{rest}
 use Rattle.rows.specs.Listing.{header, answerText}
