@@ -89,6 +89,21 @@ fn count_after(change: Change, count: usize) -> usize
     }
 }
 
+// The innermost section; a record that counts over 65 has none that can be used.
+fn innermost(sections: [Section; 65], count: usize) -> Innermost
+    ensures { λ r. ⌜ r ≡ innermostOf sections count ⌝ }
+{
+    if count == 0 {
+        return Innermost::Missing;
+    }
+    if 65 < count {
+        return Innermost::Missing;
+    }
+    let s = sections[count - 1];
+    let sort = s.sort;
+    Innermost::Of(sort)
+}
+
 // What was kept comes again, else the tokenizer's next answer.
 fn came(kept: Kept, tokenizer: tokenizer::State, doc: &[u8]) -> tokenizer::Step
     ensures { λ r. ⌜ r ≡ cameOf (now (doc .entry)) tokenizer kept ⌝ }
@@ -121,22 +136,6 @@ impl State {
         }
     }
 
-    // The innermost section; a record that counts over 65 has none that can be used.
-    fn innermost(self) -> Innermost
-        ensures { λ r. ⌜ r ≡ innermostOf (self .sections) (self .count) ⌝ }
-    {
-        let count = self.count;
-        if count == 0 {
-            return Innermost::Missing;
-        }
-        if 65 < count {
-            return Innermost::Missing;
-        }
-        let s = self.sections[count - 1];
-        let sort = s.sort;
-        Innermost::Of(sort)
-    }
-
     // The state after a verdict, with the tokenizer's.
     fn after(self, tokenizer: tokenizer::State, v: Verdict) -> State
         requires { ⌜ ChangeFits (v .change) (self .count) ⌝ }
@@ -163,8 +162,9 @@ impl State {
         ensures { λ r. ⌜ r ≡ stepWith self came tokenizer ⌝ }
     {
         let awaited = self.awaited;
-        let full = 65 <= self.count;
-        match rule(awaited, self.innermost(), full, came) {
+        let sections = self.sections;
+        let count = self.count;
+        match rule(awaited, innermost(sections, count), 65 <= count, came) {
             Ruling::Says(v) => {
                 let answer = v.answer;
                 let state = self.after(tokenizer, v);

@@ -6,9 +6,9 @@ use mathlib.Core.List.{List, [], _∷_}
 use mathlib.Core.Bool.{Bool, true, false, cond, _&&_, and-assoc, and-eq-true-iff, false≢true}
 use native.Mathlib.Omega.{arith}
 use lib.Dec.{eqb, eqb·suc-zero}
-use lib.ListN.{length, drop, length-drop}
-use lib.Seq.{drop-drop}
-use borrow.Author.Tests.{ne-eqb}
+use lib.ListN.{length, getD, drop, length-drop}
+use lib.Seq.{drop-drop, drop-cons}
+use borrow.Author.Tests.{ne-eqb, le-leb}
 use Rattle.text.specs.Utf8.{within, leadOf, followed, lenAfter, charLen, onLead, owes, utf8}
 use Rattle.text.specs.declared.utf8.Lead.{Lead}
 use Rattle.text.specs.declared.utf8.Lead.the-variants.{Follow, Bad}
@@ -67,3 +67,8 @@ module _ (s : List ℕ) (i n : ℕ) (e : charLen (drop i s) ≡ n) where
 
   pub at-le : i ≤ length s → i + n ≤ length s
   at-le h = omega (arith, e, charLen-le (drop i s), length-drop i s)
+
+-- a byte of the table's first row is a character by itself
+pub at-ascii : (s : List ℕ) (i : ℕ) → i < length s → getD s i 0 < 0x80 → charLen (drop i s) ≡ 1
+unfolding charLen leadOf within followed
+at-ascii s i h t = rw (drop-cons s i 0 h, le-leb 0 (getD s i 0) (omega arith), le-leb (getD s i 0) 0x7F (omega (arith, t)))

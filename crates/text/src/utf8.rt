@@ -69,16 +69,21 @@ pub fn char_len(s: &[u8]) -> usize
     }
 }
 
+// A byte of the table's first row is a character by itself: for these there is a short way, past the table.
 pub fn is_utf8(s: &[u8]) -> bool
     ensures { λ r. ⌜ r ≡ utf8 (now (s .entry)) ⌝ }
 {
     let mut i = 0;
     while i < s.len() {
-        let n = char_len(&s[i..]);
-        if n == 0 {
-            return false;
+        if s[i] < 0x80 {
+            i += 1;
+        } else {
+            let n = char_len(&s[i..]);
+            if n == 0 {
+                return false;
+            }
+            i += n;
         }
-        i += n;
     }
     true
 }

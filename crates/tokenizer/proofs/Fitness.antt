@@ -2,10 +2,10 @@
 use Prim.Native.Nat.{ℕ, zero, suc, _+_, _-_, _≤_, _<_}
 use mathlib.Core.Path.{_≡_, refl, sym, _∙_}
 use mathlib.Core.List.{List}
-use mathlib.Core.Bool.{Bool, true, false, _&&_, and-comm, and-false}
+use mathlib.Core.Bool.{Bool, true, false, cond, _&&_, and-comm, and-false}
 use native.Mathlib.Numerals.{add-one, sub-one}
 use native.Mathlib.Omega.{arith}
-use lib.Dec.{leb, ltb}
+use lib.Dec.{eqb, leb, ltb, eqb·suc-zero}
 use lib.ListN.{getD}
 use borrow.Author.Tests.{le-leb, lt-leb, leb-true, lt-ltb, ltb-true}
 use Rattle.text.specs.declared.bytes.Part.{Part}
@@ -62,9 +62,9 @@ inner-fit n indents zero e = part-fit n noPart (omega arith) (omega arith)
 inner-fit n indents (suc k) e = and-left (fitPart n (getD indents k noPart)) _ e
 
 -- the innermost open indentation is the last of the open ones
-pub inner-last : (indents : List Part) (depth : ℕ) → (depth ≡ 0 → ⊥) → getD indents (depth - 1) noPart ≡ innerOf indents depth
-inner-last indents zero h = absurd (h refl)
-inner-last indents (suc k) h = rw sub-one
+pub inner-last : (indents : List Part) (depth : ℕ) → cond (eqb depth 0) noPart (getD indents (depth - 1) noPart) ≡ innerOf indents depth
+inner-last indents zero = refl
+inner-last indents (suc k) = rw (eqb·suc-zero, sub-one)
 
 -- one more open indentation, tested after those before it
 pub open-more : (n : ℕ) (indents : List Part) (i : ℕ) {t u : Bool} → t ≡ fitOpen n indents i → u ≡ fitPart n (getD indents i noPart)

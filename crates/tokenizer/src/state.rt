@@ -8,17 +8,19 @@ use plan::plan_at;
 use text::Dropped;
 use text::Part;
 ghost use mathlib.Core.Path.{_≡_};
-ghost use mathlib.Core.Bool.{true};
+ghost use mathlib.Core.Bool.{true, cond};
 ghost use Prim.Native.Nat.{_+_, _-_, _<_, _≤_, _^_};
-ghost use lib.ListN.{length, set};
-ghost use Rattle.plan.specs.Plan.{shiftedBy};
+ghost use lib.Dec.{eqb};
+ghost use lib.ListN.{length, drop, set};
+ghost use Rattle.plan.specs.Plan.{shiftedBy, planAt};
 ghost use Rattle.tokenizer.specs.Token.{valuesOf};
 ghost use Rattle.tokenizer.specs.Step.{
   indentOf,
   sizeOf,
   answerOf,
   reach,
-  innerOf,
+  noPart,
+  bytesOf,
   depthAfter,
   heldAfter,
   indentsAfter,
@@ -26,7 +28,6 @@ ghost use Rattle.tokenizer.specs.Step.{
   fit,
   fitPart,
   fitHeld,
-  stepWith,
   stepOf,
   fresh,
 };
@@ -177,6 +178,46 @@ fn indents_after(change: Change, indent: Part, indents: [Part; 64], depth: usize
     out
 }
 
+// The innermost open indentation, which is the last one, or the empty one where none is open.
+fn innermost(depth: usize, last: Part) -> Part
+    ensures { λ r. ⌜ r ≡ cond (eqb depth 0) noPart last ⌝ }
+{
+    if depth == 0 {
+        Part { start: 0, end: 0 }
+    } else {
+        last
+    }
+}
+
+// The plan of a step at the place: inner is the innermost open indentation, and indent this step's, k bytes of it standing there.
+fn planned(
+    doc: &[u8],
+    place: usize,
+    marks: Marks,
+    depth: usize,
+    inner: Part,
+    indent: Part,
+    k: usize,
+) -> Plan
+    requires { ⌜ place ≤ length (now doc) ⌝ }
+    requires { ⌜ fitPart (length (now doc)) inner ≡ true ⌝ }
+    requires { ⌜ fitPart (length (now doc)) indent ≡ true ⌝ }
+    ensures { λ r. ⌜ r ≡ planAt marks depth (bytesOf (now (doc .entry)) inner) (bytesOf (now (doc .entry)) indent) (drop place (now (doc .entry))) k ⌝ }
+{
+    let inner_from = inner.start;
+    let inner_to = inner.end;
+    let from = indent.start;
+    let to = indent.end;
+    plan_at(
+        marks,
+        depth,
+        &doc[inner_from..inner_to],
+        &doc[from..to],
+        &doc[place..],
+        k,
+    )
+}
+
 impl State {
     // The longest document, in bytes, and the most sections open at once.
     pub const MAX_DOCUMENT: usize = 16_777_216;
@@ -234,18 +275,6 @@ impl State {
         open_fit
     }
 
-    // The innermost open indentation, or the empty one.
-    fn innermost(self) -> Part
-        requires { ⌜ self .depth ≤ 64 ⌝ }
-        ensures { λ r. ⌜ r ≡ innerOf (self .indents) (self .depth) ⌝ }
-    {
-        let depth = self.depth;
-        if depth == 0 {
-            return Part { start: 0, end: 0 };
-        }
-        self.indents[depth - 1]
-    }
-
     // The state after a plan, indent being the step's indentation.
     fn after(self, indent: Part, p: Plan) -> State
         requires { ⌜ self .depth ≤ 64 ⌝ }
@@ -270,36 +299,6 @@ impl State {
         }
     }
 
-    // The step of a fit state whose indentation is `indent`, k bytes of it standing at the place.
-    fn step_with(self, doc: &[u8], indent: Part, k: usize) -> Step
-        requires { ⌜ length (now doc) ≤ 16777216 ⌝ }
-        requires { ⌜ fit (length (now doc)) self ≡ true ⌝ }
-        requires { ⌜ fitPart (length (now doc)) indent ≡ true ⌝ }
-        ensures { λ r. ⌜ r ≡ stepWith (now (doc .entry)) self indent k ⌝ }
-    {
-        let place = self.place;
-        let line = self.line;
-        let from = indent.start;
-        let to = indent.end;
-        let inner = self.innermost();
-        let inner_from = inner.start;
-        let inner_to = inner.end;
-        let depth = self.depth;
-        let marks = self.marks;
-        let p = plan_at(
-            marks,
-            depth,
-            &doc[inner_from..inner_to],
-            &doc[from..to],
-            &doc[place..],
-            k,
-        );
-        let says = p.says;
-        let state = self.after(indent, p);
-        let answer = answered(says, line, place, indent);
-        Step { answer, state }
-    }
-
     // One step: the answer, and the state for the next call. 12 and 15 give the very state back.
     pub fn step(self, doc: &[u8]) -> Step
         ensures { λ r. ⌜ valuesOf (r .answer) ≡ valuesOf (stepOf (now (doc .entry)) self .answer) ⌝ }
@@ -318,9 +317,19 @@ impl State {
             };
         }
         let place = self.place;
+        let line = self.line;
         let held = self.held;
+        let marks = self.marks;
+        let depth = self.depth;
         let i = indent_at(held, place, &doc[place..]);
         let indent = i.part;
-        self.step_with(doc, indent, i.size)
+        let last = one_less(depth);
+        let open = self.indents[last];
+        let inner = innermost(depth, open);
+        let p = planned(doc, place, marks, depth, inner, indent, i.size);
+        let says = p.says;
+        let answer = answered(says, line, place, indent);
+        let state = self.after(indent, p);
+        Step { answer, state }
     }
 }

@@ -1,7 +1,7 @@
 -- `is_utf8` passes one character a turn. Invariant: the text is well-formed exactly where the rest is (proofs/Chars). Measure:
 -- the bytes left, which fall because a character has at least one.
 use lib.ListN.{drop-of-length-le}
-use Rattle.text.proofs.Chars.{at-none, at-char, at-le}
+use Rattle.text.proofs.Chars.{at-none, at-char, at-le, at-ascii}
 use Rattle.text.proofs.Front.{from}
 use Rattle.text.specs.Utf8.{utf8, owes}
 use lib.ListN.{length, drop}
@@ -21,6 +21,22 @@ abbrev μ-loop : tie.MeasureT-loop
 loop-holds : tie.Need-loop-holds Inv-loop μ-loop
 loop-holds c = (search needs, refl)
 
+shared-slice-read-if1 : tie.Need-shared-slice-read-if1 Inv-loop μ-loop
+shared-slice-read-if1 c = search needs
+
+add-i : tie.Need-add-i Inv-loop μ-loop
+add-i c = search needs
+
+loop-less : tie.Need-loop-less Inv-loop μ-loop
+loop-less c = search needs
+
+loop-again : tie.Need-loop-again Inv-loop μ-loop
+loop-again c =
+    let h = c .before .before in (
+      search needs,
+      h .before .loop .inv .1 ∙ at-char _ _ _ (at-ascii _ _ (h .loop-test .taken) (c .if1 .taken)) (h .loop-test .taken) (λ e. absurd (omega (arith, e))),
+    )
+
 sub-char-len : tie.Need-sub-char-len Inv-loop μ-loop
 sub-char-len c = search needs
 
@@ -35,20 +51,20 @@ char-len-requires c κs = search needs
 
 returns : tie.Need-returns Inv-loop μ-loop
 returns c =
-    let h = c .before .before .before in
-    sym (h .before .loop .inv .1 ∙ at-none _ _ _ (sym (rw from at (c .before .char-len .ensures))) (h .loop-test .taken) (c .if1 .taken))
+    let h = c .before .before .before .before .before in
+    sym (h .before .loop .inv .1 ∙ at-none _ _ _ (sym (rw from at (c .before .char-len .ensures))) (h .loop-test .taken) (c .if2 .taken))
 
-add-i : tie.Need-add-i Inv-loop μ-loop
-add-i c = omega (arith, at-le _ _ _ (sym (rw from at (c .before .char-len .ensures))) (c .before .before .before .before .loop .inv .0))
+add-i-2 : tie.Need-add-i-2 Inv-loop μ-loop
+add-i-2 c = omega (arith, at-le _ _ _ (sym (rw from at (c .before .char-len .ensures))) (c .before .before .before .before .before .before .loop .inv .0))
 
-loop-less : tie.Need-loop-less Inv-loop μ-loop
-loop-less c = omega (arith, at-le _ _ _ (sym (rw from at (c .before .char-len .ensures))) (c .before .before .before .before .loop .inv .0))
+loop-less-2 : tie.Need-loop-less-2 Inv-loop μ-loop
+loop-less-2 c = omega (arith, at-le _ _ _ (sym (rw from at (c .before .char-len .ensures))) (c .before .before .before .before .before .before .loop .inv .0))
 
-loop-again : tie.Need-loop-again Inv-loop μ-loop
-loop-again c =
-    let h = c .before .before .before in (
+loop-again-2 : tie.Need-loop-again-2 Inv-loop μ-loop
+loop-again-2 c =
+    let h = c .before .before .before .before .before in (
       at-le _ _ _ (sym (rw from at (c .before .char-len .ensures))) (h .before .loop .inv .0),
-      h .before .loop .inv .1 ∙ at-char _ _ _ (sym (rw from at (c .before .char-len .ensures))) (h .loop-test .taken) (c .if1 .left),
+      h .before .loop .inv .1 ∙ at-char _ _ _ (sym (rw from at (c .before .char-len .ensures))) (h .loop-test .taken) (c .if2 .left),
     )
 
 returns-2 : tie.Need-returns-2 Inv-loop μ-loop
@@ -62,12 +78,16 @@ is-utf8-spec =
     Inv-loop
     μ-loop
     loop-holds
+    shared-slice-read-if1
+    add-i
+    loop-less
+    loop-again
     sub-char-len
     part-char-len-start
     part-char-len-end
     char-len-requires
     returns
-    add-i
-    loop-less
-    loop-again
+    add-i-2
+    loop-less-2
+    loop-again-2
     returns-2)
