@@ -118,7 +118,7 @@ fn block_start(s: &[u8]) -> Start
     }
 }
 
-// What becomes of a text that is read so.
+// What becomes of a text, by how it is read.
 pub fn start_of(reading: Reading, s: &[u8]) -> Start
     ensures { λ r. ⌜ r ≡ startOf reading (now (s .entry)) ⌝ }
 {

@@ -1,4 +1,4 @@
--- `deliver` measures, and writes what fits (proofs/Starts, proofs/Delivery).
+-- `deliver` measures, and writes what fits (pieces/proofs/Starts, proofs/Delivery).
 use mathlib.Core.Path.{sym, _∙_}
 use native.Mathlib.Omega.{arith}
 use Rattle.pieces.proofs.Starts.{part-lies, pieces-lie}

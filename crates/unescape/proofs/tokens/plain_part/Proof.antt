@@ -1,4 +1,4 @@
--- `plain_part` is its definition; the plain part lies within the text (proofs/Starts).
+-- `plain_part` is its definition; the plain part lies within the text (pieces/proofs/Starts).
 use mathlib.Core.Path.{sym, ap, _∙_}
 use Rattle.pieces.proofs.Starts.{part-lies}
 use Rattle.unescape.specs.Walk.{plainBy}
