@@ -8,7 +8,7 @@ use Rattle.tokenizer.specs.declared.state.Answer.the-variants as came
 use Rattle.parser.specs.Lists.{parse}
 use Rattle.ruling.specs.declared.ruling.Answer.the-variants as answer
 use Rattle.rows.specs.Listing.{listingOf}
-use Rattle.unescape.specs.Meaning.{bytes, code, refused, entryMeaning, blockMeaning}
+use Rattle.pieces.specs.Meaning.{bytes, code, refused, entryMeaning, blockMeaning}
 use Prim.Native.Nat.{ℕ}
 
 abbrev pub part : ℕ → ℕ → Part

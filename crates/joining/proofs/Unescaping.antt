@@ -34,8 +34,8 @@ use Rattle.reading.specs.Claims.{Text, TokenFits, Fits, All}
 use Rattle.reading.proofs.Claimed.{fit as reading-fit}
 use Rattle.text.specs.Bytes.{countWhile, notBreak}
 use Rattle.text.specs.Scalar.{isScalar, encoding}
-use Rattle.unescape.specs.Codes.{codeOf, simpleOf}
-use Rattle.unescape.specs.Meaning.{
+use Rattle.pieces.specs.Codes.{codeOf, simpleOf}
+use Rattle.pieces.specs.Meaning.{
   Meaning,
   part,
   bytes,
@@ -51,11 +51,13 @@ use Rattle.unescape.specs.Meaning.{
   simplyQuoted,
   entryMeaning,
   blockMeaning,
+  meaning,
 }
-use Rattle.unescape.specs.Unescape.{meaning, worded, wordsOf, sound, Unescaped, delivered, wordsIn, unescapeOf}
-use Rattle.unescape.specs.declared.words.Reading.{Reading}
-use Rattle.unescape.specs.declared.words.Reading.the-variants.{AsIs, Entry, Block}
-use Rattle.unescape.specs.declared.words.Worded.{Worded}
+use Rattle.pieces.specs.Words.{worded, wordsOf, sound}
+use Rattle.pieces.specs.declared.words.Reading.{Reading}
+use Rattle.pieces.specs.declared.words.Reading.the-variants.{AsIs, Entry, Block}
+use Rattle.pieces.specs.declared.words.Worded.{Worded}
+use Rattle.unescape.specs.Unescape.{Unescaped, delivered, wordsIn, unescapeOf}
 use Rattle.unescape.specs.declared.Answer.{Answer}
 use Rattle.unescape.specs.declared.Answer.the-variants.{Plain, Written, Refused}
 use Rattle.joining.specs.Raising.{raisePart, raiseToken}

@@ -12,19 +12,20 @@ use Rattle.text.specs.Utf8.{charLen, utf8}
 use Rattle.text.specs.declared.bytes.Part.{Part}
 use Rattle.text.proofs.Cases.{on-cond, by-bool, and-left, and-right}
 use Rattle.text.proofs.Chars.{charLen-le}
-use Rattle.unescape.specs.Codes.{codeOf, simpleOf}
-use Rattle.unescape.specs.Meaning.{Meaning, part, bytes, code, refused, written, Mode, plain, escape, brace, closed, quoted}
-use Rattle.unescape.specs.Pieces.{meaningFrom, measuredOf, Fits, filled, startOf}
-use Rattle.unescape.specs.Unescape.{meaning, Unescaped, keptBuffer, refusal, delivered}
+use Rattle.pieces.specs.Codes.{codeOf, simpleOf}
+use Rattle.pieces.specs.Meaning.{Meaning, part, bytes, code, refused, written, Mode, plain, escape, brace, closed, quoted, meaning}
+use Rattle.pieces.specs.Pieces.{meaningFrom, startOf}
+use Rattle.pieces.specs.declared.pieces.Spot.{Spot}
+use Rattle.pieces.specs.declared.pieces.Spot.the-variants.{Quotes, FirstLine, LaterLine, Break}
+use Rattle.pieces.specs.declared.words.Reading.{Reading}
+use Rattle.pieces.specs.declared.words.Start.the-variants.{Plain as Whole, Pieces}
+use Rattle.pieces.proofs.Starts.{part-means, pieces-mean, pieces-lie}
+use Rattle.unescape.specs.Walk.{measuredOf, Fits, filled}
+use Rattle.unescape.specs.Unescape.{Unescaped, keptBuffer, refusal, delivered}
 use Rattle.unescape.specs.declared.Answer.{Answer}
 use Rattle.unescape.specs.declared.Answer.the-variants.{Plain, Written, Refused}
-use Rattle.unescape.specs.declared.pieces.Spot.{Spot}
-use Rattle.unescape.specs.declared.pieces.Spot.the-variants.{Quotes, FirstLine, LaterLine, Break}
-use Rattle.unescape.specs.declared.words.Reading.{Reading}
-use Rattle.unescape.specs.declared.words.Start.the-variants.{Plain as Whole, Pieces}
 use Rattle.unescape.specs.declared.walk.Measured.the-variants.{Length}
 use Rattle.unescape.specs.declared.walk.Measured.the-variants.{Code as CodeAt, Refused as RefusedBy}
-use Rattle.unescape.proofs.Starts.{part-means, pieces-mean, pieces-lie}
 
 -- no part, and a code that ends within k bytes
 abbrev pub Ends : ℕ → Meaning → Type 0

@@ -8,8 +8,8 @@ use native.Mathlib.Omega.{arith}
 use lib.ListN.{length, take, drop, getD, set, length-take, length-drop, length-append, drop-of-length-le, take-append-drop}
 use lib.Seq.{take-suc, drop-cons, drop-drop, set-at, take-at, drop-at, length-take-le, take-length}
 use Rattle.text.proofs.Front.{from}
-use Rattle.unescape.specs.Meaning.{Meaning, part, bytes, code, refused, written}
-use Rattle.unescape.specs.Pieces.{Fits, filled}
+use Rattle.pieces.specs.Meaning.{Meaning, part, bytes, code, refused, written}
+use Rattle.unescape.specs.Walk.{Fits, filled}
 
 -- one byte more of s
 pub copied : (s o out : List ℕ) (i : ℕ) → i < length s → i < length o → out ≡ take i s ++ drop i o

@@ -1,13 +1,6 @@
-pub mod Examples
 pub mod Valid
-pub mod Digits
 pub mod Filling
-pub mod Escapes
-pub mod Broken
-pub mod Firsts
-pub mod Walking
 pub mod Turns
 pub mod Writing
-pub mod Starts
 pub mod Delivery
 pub mod Ruling

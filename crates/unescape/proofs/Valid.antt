@@ -7,7 +7,7 @@
 use Prim.Native.Nat.{ℕ, _+_, _-_, _<_}
 use mathlib.Core.Path.{_≡_, refl, sym, ap, _∙_}
 use mathlib.Core.List.{List, [], _∷_, _++_, append-nil, append-assoc}
-use mathlib.Core.Bool.{true, false, cond, false≢true}
+use mathlib.Core.Bool.{true, cond, false≢true}
 use native.Mathlib.Nat.{sub-zero}
 use native.Mathlib.Numerals.{sub-one}
 use native.Mathlib.Omega.{arith}
@@ -18,12 +18,11 @@ use borrow.Author.Tests.{eqb-true}
 use Rattle.text.specs.Bytes.{countWhile, notBreak, startsWith}
 use Rattle.text.specs.Scalar.{isScalar, encoding}
 use Rattle.text.specs.Utf8.{owes, utf8}
-use Rattle.text.proofs.Cases.{on-cond, and-left, and-right, clash}
+use Rattle.text.proofs.Cases.{on-cond, and-left, and-right}
 use Rattle.text.proofs.Joins.{utf8-append, utf8-drop, utf8-cut, utf8-snoc}
 use Rattle.text.proofs.Unicode.{utf8-ascii, utf8-encoding}
-use Rattle.unescape.specs.Claims.{ValidIn, Valid}
-use Rattle.unescape.specs.Codes.{codeOf, simpleOf}
-use Rattle.unescape.specs.Meaning.{
+use Rattle.pieces.specs.Codes.{codeOf, simpleOf}
+use Rattle.pieces.specs.Meaning.{
   Meaning,
   part,
   bytes,
@@ -47,9 +46,11 @@ use Rattle.unescape.specs.Meaning.{
   laterLines,
   joinedLines,
   blockMeaning,
+  meaning,
 }
-use Rattle.unescape.specs.Unescape.{meaning}
-use Rattle.unescape.specs.declared.words.Reading.the-variants.{AsIs, Entry, Block}
+use Rattle.pieces.specs.declared.words.Reading.the-variants.{AsIs, Entry, Block}
+use Rattle.pieces.proofs.Escapes.{simple}
+use Rattle.unescape.specs.Claims.{ValidIn, Valid}
 
 utf8-nil : utf8 [] ≡ true
 unfolding utf8 owes
@@ -99,19 +100,6 @@ replaced c f none = none
 closing : {p : List ℕ} → utf8 p ≡ true → (r : List ℕ) → Writes p (closed r)
 closing {p} u [] = wrote (ended p u)
 closing u (b ∷ r) = none
-
--- a byte that may follow a backslash, and the one that both stand for, are below 80
-abbrev pub Simple : ℕ → ℕ → Type 0
-Simple b v = eqb v 0 ≡ false → (b < 0x80) × (v < 0x80)
-
-pub simple : (b : ℕ) → Simple b (simpleOf b)
-unfolding simpleOf
-simple b =
-    on-cond (Simple b) (eqb b 34) (λ t e. omega (arith, eqb-true b 34 t))
-    (λ _. on-cond (Simple b) (eqb b 92) (λ t e. omega (arith, eqb-true b 92 t))
-    (λ _. on-cond (Simple b) (eqb b 110) (λ t e. omega (arith, eqb-true b 110 t))
-    (λ _. on-cond (Simple b) (eqb b 114) (λ t e. omega (arith, eqb-true b 114 t))
-    (λ _. on-cond (Simple b) (eqb b 116) (λ t e. omega (arith, eqb-true b 116 t)) (λ t e. absurd (clash e))))))
 
 -- in each mode, what is valid with the rest: outside an escape any p, after a backslash nothing, in a brace the bytes that it holds
 abbrev Keeps : Mode → List ℕ → Meaning → Type 0

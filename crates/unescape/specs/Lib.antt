@@ -1,5 +1,3 @@
-pub mod Codes
-pub mod Meaning
 pub mod Unescape
-pub mod Pieces
+pub mod Walk
 pub mod Claims

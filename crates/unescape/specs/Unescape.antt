@@ -1,58 +1,17 @@
 -- Document 01, 'Unescaping': a token of a document with a lent buffer. 12, then 13, then 8 to 11, then 14.
-use Prim.Native.Nat.{ℕ, zero, suc, _+_}
-use mathlib.Core.List.{List, [], _∷_, _++_}
-use mathlib.Core.Bool.{Bool, true, false, cond, _&&_}
+use Prim.Native.Nat.{ℕ, _+_}
+use mathlib.Core.List.{List, [], _++_}
+use mathlib.Core.Bool.{cond, _&&_}
 use lib.Dec.{leb, ltb}
 use lib.ListN.{length, drop}
-use Rattle.text.specs.Utf8.{utf8}
-use Rattle.text.specs.declared.bytes.Part.{Part}
 use Rattle.tokenizer.specs.Token.{lineOf}
-use Rattle.tokenizer.specs.Step.{bytesOf, noPart, fitPart}
+use Rattle.tokenizer.specs.Step.{bytesOf, noPart}
 use Rattle.tokenizer.specs.declared.token.Token.{Token}
-use Rattle.tokenizer.specs.declared.token.Token.the-variants.{
-  Newline,
-  Comment,
-  Indent,
-  Outdent,
-  ListItem,
-  MapKey,
-  Value,
-  MultilineHint,
-  MultilineValue,
-  NoValue,
-}
-use Rattle.unescape.specs.Meaning.{Meaning, part, bytes, code, refused, entryMeaning, blockMeaning}
-use Rattle.unescape.specs.declared.words.Reading.{Reading}
-use Rattle.unescape.specs.declared.words.Reading.the-variants.{AsIs, Entry, Block}
-use Rattle.unescape.specs.declared.words.Worded.{Worded}
+use Rattle.pieces.specs.Meaning.{Meaning, part, bytes, code, refused, meaning}
+use Rattle.pieces.specs.Words.{wordsOf, sound}
+use Rattle.pieces.specs.declared.words.Worded.{Worded}
 use Rattle.unescape.specs.declared.Answer.{Answer}
 use Rattle.unescape.specs.declared.Answer.the-variants.{Plain, Written, Refused}
-
--- a text as its kind is read
-unfoldable pub meaning : Reading → List ℕ → List ℕ → Meaning
-meaning AsIs s i = part 0 (length s)
-meaning Entry s i = entryMeaning s
-meaning Block s i = blockMeaning i s
-
--- a token's text, where it has one
-abbrev pub worded : Reading → Part → Worded
-worded r p = record { reading = r; text = p; indent = noPart }
-
-unfoldable pub wordsOf : Token → Worded
-wordsOf (Newline l) = worded AsIs noPart
-wordsOf (Comment l p) = worded AsIs p
-wordsOf (Indent l) = worded AsIs noPart
-wordsOf (Outdent l) = worded AsIs noPart
-wordsOf (ListItem l) = worded AsIs noPart
-wordsOf (MapKey l p) = worded Entry p
-wordsOf (Value l p) = worded Entry p
-wordsOf (MultilineHint l p) = worded AsIs p
-wordsOf (MultilineValue l i p) = record { reading = Block; text = p; indent = i }
-wordsOf (NoValue l) = worded AsIs noPart
-
--- a part that does not start after its end, nor end past the document, and is UTF-8; else 13
-unfoldable pub sound : List ℕ → Part → Bool
-sound d p = fitPart (length d) p && utf8 (bytesOf d p)
 
 -- the answer, and the buffer after it
 pub record Unescaped : Type 0 where

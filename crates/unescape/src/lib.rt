@@ -1,20 +1,11 @@
 // Unescaping: a token of a document is the plain part of it, or a text that is written into a lent buffer, or a refusal.
-mod codes;
-mod pieces;
 mod tokens;
 mod walk;
-mod words;
 
-pub use pieces::Next;
-pub use pieces::Piece;
-pub use pieces::Spot;
 use text::Part;
 pub use tokens::plain;
 pub use tokens::unescape;
 pub use walk::Measured;
-pub use words::Reading;
-pub use words::Start;
-pub use words::Worded;
 
 // What unescaping answers: the plain part of the document, the length of the text that was written, or a refusal with its
 // number, its line and, for an invalid escape code, the part that its message shows.

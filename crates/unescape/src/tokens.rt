@@ -3,19 +3,21 @@ use crate::Answer;
 use crate::walk::Measured;
 use crate::walk::measure;
 use crate::walk::write;
-use crate::words::Reading;
-use crate::words::Start;
-use crate::words::is_sound;
-use crate::words::start_of;
-use crate::words::words_of;
+use pieces::Reading;
+use pieces::Start;
+use pieces::is_sound;
+use pieces::start_of;
+use pieces::words_of;
 use text::Part;
 use tokenizer::State;
 use tokenizer::Token;
 ghost use mathlib.Core.Path.{_≡_};
 ghost use Prim.Native.Nat.{_+_, _≤_};
 ghost use lib.ListN.{length};
-ghost use Rattle.unescape.specs.Unescape.{refusal, meaning, delivered, unescapeOf, plainOf};
-ghost use Rattle.unescape.specs.Pieces.{startOf, plainBy};
+ghost use Rattle.pieces.specs.Meaning.{meaning};
+ghost use Rattle.pieces.specs.Pieces.{startOf};
+ghost use Rattle.unescape.specs.Unescape.{refusal, delivered, unescapeOf, plainOf};
+ghost use Rattle.unescape.specs.Walk.{plainBy};
 
 // A refusal that shows no part.
 fn refuse(number: usize, line: usize) -> Answer
@@ -99,7 +101,6 @@ pub fn unescape(t: Token, doc: &[u8], out: &mut [u8]) -> Answer
 
 // The part of a text that is plain, else the empty one.
 fn plain_part<'a>(reading: Reading, s: &'a [u8]) -> &'a [u8]
-    requires { ⌜ length (now s) ≤ 16777216 ⌝ }
     ensures { λ r. ⌜ now r ≡ plainBy (startOf reading (now (s .entry))) (now (s .entry)) ⌝ }
 {
     match start_of(reading, s) {

@@ -1,13 +1,14 @@
 // The two walks over the pieces: one measures, one writes.
-use crate::pieces::Piece;
-use crate::pieces::Spot;
-use crate::pieces::next_piece;
+use pieces::Piece;
+use pieces::Spot;
+use pieces::next_piece;
 ghost use mathlib.Core.Path.{_≡_};
 ghost use mathlib.Core.List.{_++_};
 ghost use Prim.Native.Nat.{_≤_};
 ghost use lib.ListN.{length, drop};
 ghost use Rattle.text.specs.Scalar.{encodingOf};
-ghost use Rattle.unescape.specs.Pieces.{meaningFrom, measuredOf, Fits, filled};
+ghost use Rattle.pieces.specs.Pieces.{meaningFrom};
+ghost use Rattle.unescape.specs.Walk.{measuredOf, Fits, filled};
 
 // The length of the text that a meaning writes, or its refusal: the part of an invalid code, or a number.
 pub enum Measured {
@@ -74,7 +75,6 @@ fn put(n: u32, out: &mut [u8]) -> usize
 
 // The text from the cursor on, put over the first bytes of out.
 pub(crate) fn write(start: usize, first: Spot, indent: &[u8], s: &[u8], out: &mut [u8])
-    requires { ⌜ length (now s) ≤ 16777216 ⌝ }
     requires { ⌜ start ≤ length (now s) ⌝ }
     requires { ⌜ Fits (meaningFrom first (now indent) (drop start (now s)) start) (length (now out)) ⌝ }
     ensures { λ _. ⌜ now (out .exit) ≡ filled (meaningFrom first (now (indent .entry)) (drop start (now (s .entry))) start) (now (out .entry)) ⌝ }

@@ -1,6 +1,7 @@
--- `deliver` measures, and writes what fits (proofs/Starts, proofs/Delivery).
+-- `deliver` measures, and writes what fits (pieces/proofs/Starts, proofs/Delivery).
 use mathlib.Core.Path.{sym, _∙_}
 use native.Mathlib.Omega.{arith}
+use Rattle.pieces.proofs.Starts.{part-lies, pieces-lie}
 use Rattle.unescape.proofs.Delivery.{
   plain-answered,
   short-answered,
@@ -10,7 +11,6 @@ use Rattle.unescape.proofs.Delivery.{
   code-answered,
   refusal-answered,
 }
-use Rattle.unescape.proofs.Starts.{part-lies, pieces-lie}
 use borrow.Author.Needs.{needs}
 use Rattle.unescape.proofs.tokens.deliver.Statement.{statement}
 use Rattle.unescape.proofs.tokens.deliver.Tie as tie
@@ -48,7 +48,7 @@ returns c =
 write-requires : tie.Need-write-requires
 write-requires c κs =
     let a = c .before .before .before .before .before .before .before .before .before .before .before .before .before .args in
-    (omega arith, (pieces-lie _ _ (sym (c .before .before .before .before .before .before .before .before .before .start-of .ensures) ∙ c .before .before .before .before .before .before .before .at .given .1), text-fits (a .reading) (a .s .now) (a .indent .now) (a .out .now) (a .from) (a .line) _ _ (sym (c .before .before .before .before .before .before .before .before .before .start-of .ensures) ∙ c .before .before .before .before .before .before .before .at .given .1) (sym (c .before .before .before .n .given .1) ∙ c .before .before .before .before .before .measure .ensures) (c .before .if1 .left)))
+    (pieces-lie _ _ (sym (c .before .before .before .before .before .before .before .before .before .start-of .ensures) ∙ c .before .before .before .before .before .before .before .at .given .1), text-fits (a .reading) (a .s .now) (a .indent .now) (a .out .now) (a .from) (a .line) _ _ (sym (c .before .before .before .before .before .before .before .before .before .start-of .ensures) ∙ c .before .before .before .before .before .before .before .at .given .1) (sym (c .before .before .before .n .given .1) ∙ c .before .before .before .before .before .measure .ensures) (c .before .if1 .left))
 
 enum-known-a-2 : tie.Need-enum-known-a-2
 enum-known-a-2 c = search needs

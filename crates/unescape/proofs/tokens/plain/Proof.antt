@@ -1,8 +1,7 @@
 -- `plain` takes the branches of its rule (proofs/Ruling).
 use mathlib.Core.Path.{sym, _∙_}
-use native.Mathlib.Omega.{arith}
 use borrow.Author.Tests.{not-true, not-false}
-use Rattle.unescape.proofs.Ruling.{sound-fits, sound-length, plain-over, plain-no-text, plain-no-indent, plain-ruled}
+use Rattle.unescape.proofs.Ruling.{sound-fits, plain-over, plain-no-text, plain-no-indent, plain-ruled}
 use borrow.Author.Needs.{needs}
 use Rattle.unescape.proofs.tokens.plain.Statement.{statement}
 use Rattle.unescape.proofs.tokens.plain.Tie as tie
@@ -44,7 +43,7 @@ part-plain-part-end : tie.Need-part-plain-part-end
 part-plain-part-end c = sound-fits _ _ (sym (c .before .before .before .is-sound .ensures) ∙ not-false _ (c .before .before .if2 .left)) .1
 
 plain-part-requires : tie.Need-plain-part-requires
-plain-part-requires c κs = omega (arith, c .before .before .before .before .before .before .before .before .if1 .left, sound-length _ _ (sym (c .before .before .before .before .is-sound .ensures) ∙ not-false _ (c .before .before .before .if2 .left)))
+plain-part-requires c κs = search needs
 
 returns-4 : tie.Need-returns-4
 returns-4 c =

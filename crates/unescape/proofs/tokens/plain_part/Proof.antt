@@ -1,7 +1,7 @@
--- `plain_part` is its definition; the plain part lies within the text (proofs/Starts).
+-- `plain_part` is its definition; the plain part lies within the text (pieces/proofs/Starts).
 use mathlib.Core.Path.{sym, ap, _∙_}
-use Rattle.unescape.specs.Pieces.{plainBy}
-use Rattle.unescape.proofs.Starts.{part-lies}
+use Rattle.pieces.proofs.Starts.{part-lies}
+use Rattle.unescape.specs.Walk.{plainBy}
 use borrow.Author.Needs.{needs}
 use Rattle.unescape.proofs.tokens.plain_part.Statement.{statement}
 use Rattle.unescape.proofs.tokens.plain_part.Tie as tie

@@ -6,7 +6,9 @@ use native.Mathlib.Omega.{arith}
 use lib.ListN.{length, drop}
 use Rattle.text.specs.declared.scalar.Encoded.{Encoded}
 use Rattle.text.proofs.Front.{from}
-use Rattle.unescape.specs.Pieces.{meaningFrom, measuredOf}
+use Rattle.pieces.specs.Pieces.{meaningFrom}
+use Rattle.pieces.proofs.Walking.{weight}
+use Rattle.unescape.specs.Walk.{measuredOf}
 use Rattle.unescape.proofs.Turns.{
   Counted,
   none-counted,
@@ -21,7 +23,6 @@ use Rattle.unescape.proofs.Turns.{
   at-code,
   at-refused,
 }
-use Rattle.unescape.proofs.Walking.{weight}
 use borrow.Author.Needs.{needs}
 use Rattle.unescape.proofs.walk.measure.Statement.{statement}
 use Rattle.unescape.proofs.walk.measure.Tie as tie

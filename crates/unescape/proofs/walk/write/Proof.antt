@@ -5,10 +5,11 @@ use Prim.Native.Nat.{_+_, _-_, _*_, _≤_}
 use native.Mathlib.Omega.{arith}
 use lib.ListN.{length, drop}
 use Rattle.text.proofs.Front.{from}
-use Rattle.unescape.specs.Pieces.{meaningFrom, filled}
+use Rattle.pieces.specs.Pieces.{meaningFrom}
+use Rattle.pieces.proofs.Walking.{weight}
+use Rattle.unescape.specs.Walk.{filled}
 use Rattle.unescape.proofs.Filling.{Wrote, none-written}
 use Rattle.unescape.proofs.Turns.{run-skips, run-moves, scalar-moves}
-use Rattle.unescape.proofs.Walking.{weight}
 use borrow.Author.Needs.{needs}
 use Rattle.unescape.proofs.walk.write.Statement.{statement}
 use Rattle.unescape.proofs.walk.write.Tie as tie
@@ -21,7 +22,7 @@ abbrev μ-loop : tie.MeasureT-loop
 μ-loop start indent s out₀ at₀ spot₀ len₀ out at spot len = 2 * (length s - at) + weight spot
 
 loop-holds : tie.Need-loop-holds Inv-loop μ-loop
-loop-holds c = let p = c .before .before .before .pre in (p .1 .0, none-written _ _ (p .1 .1))
+loop-holds c = let p = c .before .before .before .pre in (p .0, none-written _ _ (p .1))
 
 sub-next-piece : tie.Need-sub-next-piece Inv-loop μ-loop
 sub-next-piece c = search needs

@@ -1,0 +1,7 @@
+pub mod Examples
+pub mod Digits
+pub mod Escapes
+pub mod Broken
+pub mod Firsts
+pub mod Walking
+pub mod Starts

@@ -1,0 +1,36 @@
+-- The walks over a text's pieces: what is measured of a meaning, and a buffer that it is written into.
+use Prim.Native.Nat.{ℕ, _-_, _≤_}
+use mathlib.Core.List.{List, [], _++_}
+use lib.ListN.{length, take, drop}
+use Rattle.pieces.specs.Meaning.{Meaning, part, bytes, code, refused}
+use Rattle.pieces.specs.declared.words.Start.{Start}
+use Rattle.pieces.specs.declared.words.Start.the-variants.{Plain, Pieces}
+use Rattle.unescape.specs.declared.walk.Measured.{Measured}
+use Rattle.unescape.specs.declared.walk.Measured.the-variants.{Length}
+use Rattle.unescape.specs.declared.walk.Measured.the-variants.{Code as CodeAt, Refused as RefusedBy}
+
+-- the bytes of the plain part, else none
+abbrev pub plainBy : Start → List ℕ → List ℕ
+plainBy (Plain a e) s = take (e - a) (drop a s)
+plainBy (Pieces n spot) s = []
+
+-- how long a text is that is written, or why none is; a part is not measured
+abbrev pub measuredOf : Meaning → Measured
+measuredOf (part a e) = RefusedBy 0
+measuredOf (bytes w) = Length (length w)
+measuredOf (code a e) = CodeAt a e
+measuredOf (refused n) = RefusedBy n
+
+-- a written text that fits n bytes
+abbrev pub Fits : Meaning → ℕ → Type 0
+Fits (part a e) n = ⊥
+Fits (bytes w) n = length w ≤ n
+Fits (code a e) n = ⊥
+Fits (refused r) n = ⊥
+
+-- a buffer after it
+abbrev pub filled : Meaning → List ℕ → List ℕ
+filled (part a e) o = o
+filled (bytes w) o = w ++ drop (length w) o
+filled (code a e) o = o
+filled (refused n) o = o
