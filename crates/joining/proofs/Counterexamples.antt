@@ -5,7 +5,7 @@ use mathlib.Core.List.{List, [], _∷_, _++_}
 use mathlib.Core.Bool.{true}
 use native.Mathlib.Omega.{arith}
 use lib.ListN.{length}
-use Rattle.plan.specs.Scans.{breaks}
+use Rattle.readers.specs.Scans.{breaks}
 use Rattle.tokenizer.specs.Lists.{tokens}
 use Rattle.tokenizer.specs.declared.token.Token.the-variants.{Newline, Comment, Indent, Outdent, MapKey, NoValue}
 use Rattle.tokenizer.specs.declared.state.Answer.{Answer}

@@ -11,11 +11,11 @@ use lib.Seq.{drop-drop}
 use Rattle.text.specs.Bytes.{isBreak, breakSize, countWhile, lineEnd}
 use Rattle.text.specs.declared.bytes.Part.{Part}
 use Rattle.text.specs.declared.trimming.Dropped.the-variants.{Blanks}
-use Rattle.plan.specs.Scans.{plainEnd, checkedOf, breaks, beginsHint}
+use Rattle.readers.specs.Scans.{plainEnd, checkedOf, breaks, beginsHint}
 use Rattle.plan.specs.Plan.{hintMarks, planNewline, planComment, planItem, planKey, planPlain, planMultiline, planOutdent}
 use Rattle.tokenizer.specs.Step.{bytesOf, sizeOf, heldAfter, depthAfter, afterPlan, fresh}
-use Rattle.plan.specs.declared.readers.Text.{Text}
-use Rattle.plan.specs.declared.readers.Text.the-variants.{Good, Bad}
+use Rattle.readers.specs.declared.readers.Text.{Text}
+use Rattle.readers.specs.declared.readers.Text.the-variants.{Good, Bad}
 use Rattle.plan.specs.declared.plan.Marks.{Marks}
 use Rattle.plan.specs.declared.plan.Change.{Change}
 use Rattle.plan.specs.declared.plan.Change.the-variants.{Keep, Open, Close, Hold}

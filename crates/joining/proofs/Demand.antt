@@ -10,7 +10,7 @@ use lib.ListN.{length, length-append}
 use borrow.Author.Tests.{ne-eqb}
 use Rattle.text.proofs.Cases.{by-bool, clash}
 use Rattle.tokenizer.specs.Token.{lineOf}
-use Rattle.plan.specs.Scans.{breaks}
+use Rattle.readers.specs.Scans.{breaks}
 use Rattle.tokenizer.specs.Lists.{tokens}
 use Rattle.tokenizer.specs.declared.token.Token.{Token}
 use Rattle.tokenizer.specs.declared.token.Token.the-variants.{

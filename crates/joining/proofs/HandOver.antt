@@ -13,7 +13,7 @@ use Rattle.text.specs.Bytes.{countWhile}
 use Rattle.text.specs.Trimming.{dropped}
 use Rattle.text.specs.declared.bytes.Part.{Part}
 use Rattle.text.proofs.Cases.{on-cond}
-use Rattle.plan.specs.Scans.{blanks, relationOf, breaks}
+use Rattle.readers.specs.Scans.{blanks, relationOf, breaks}
 use Rattle.plan.specs.Plan.{planEntry, planOutdent, cleared, planIndented, planOn, planAt}
 use Rattle.tokenizer.specs.Step.{bytesOf, noPart, sizeOf, innerOf, planWith, afterPlan, stepWith, stepRule, fresh}
 use Rattle.plan.specs.declared.plan.Marks.{Marks}

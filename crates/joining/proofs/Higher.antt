@@ -10,7 +10,7 @@ use native.Mathlib.Omega.{arith}
 use lib.ListN.{length, getD}
 use lib.Seq.{drop-append-add}
 use Rattle.text.specs.declared.bytes.Part.{Part}
-use Rattle.plan.specs.Scans.{blanks, breaks}
+use Rattle.readers.specs.Scans.{blanks, breaks}
 use Rattle.tokenizer.specs.Step.{bytesOf, noPart, indentOf, sizeOf, innerOf, heldAfter, depthAfter, answerOf, planWith, afterPlan, stepWith, stepRule, stepOf}
 use Rattle.tokenizer.specs.Lists.{isEnd, Reads, ends, says}
 use Rattle.plan.specs.declared.plan.Change.{Change}

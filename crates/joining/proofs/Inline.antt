@@ -15,7 +15,7 @@ use Rattle.text.specs.Trimming.{dropped}
 use Rattle.text.specs.declared.trimming.Dropped.the-variants.{Blanks}
 use Rattle.text.proofs.Cases.{by-bool, on-cond, and-left, and-right}
 use Rattle.text.proofs.Scan.{count-le}
-use Rattle.plan.specs.Scans.{blanks, stops, plainEnd, closing, quotesEnd, textEnd, eqSize, breaksAfter, breaks, endsInBreak}
+use Rattle.readers.specs.Scans.{blanks, stops, plainEnd, closing, quotesEnd, textEnd, eqSize, breaksAfter, breaks, endsInBreak}
 use Rattle.joining.specs.Tokens.{Closed}
 
 -- Texts that end in a break

@@ -9,7 +9,7 @@ use native.Mathlib.Omega.{arith}
 use lib.ListN.{length, length-drop, length-append}
 use lib.Seq.{drop-append-seam}
 use Rattle.text.specs.declared.bytes.Part.{Part}
-use Rattle.plan.specs.Scans.{breaksAfter, breaks}
+use Rattle.readers.specs.Scans.{breaksAfter, breaks}
 use Rattle.plan.specs.Plan.{planOutdent}
 use Rattle.tokenizer.specs.Step.{sizeOf, afterPlan, stepWith, stepRule, stepOf, fresh}
 use Rattle.tokenizer.specs.Lists.{isEnd, Reads, ends, says, run, tokens}

@@ -11,7 +11,7 @@ use Rattle.text.specs.Bytes.{isBlank, isBreak, countWhile, lineEnd}
 use Rattle.text.specs.Trimming.{dropped}
 use Rattle.text.specs.declared.bytes.Part.{Part}
 use Rattle.text.proofs.Cases.{by-bool}
-use Rattle.plan.specs.Scans.{blanks, relationOf, textEnd, beginsHint, endsInBreak, linesOf}
+use Rattle.readers.specs.Scans.{blanks, relationOf, textEnd, beginsHint, endsInBreak, linesOf}
 use Rattle.plan.specs.Plan.{
   planNewline,
   planComment,

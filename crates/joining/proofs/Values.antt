@@ -13,8 +13,8 @@ use borrow.Author.Tests.{eqb-true, not-true, not-false}
 use Rattle.text.specs.Bytes.{isBlank, isBreak, breakSize, countWhile, startsWith}
 use Rattle.text.specs.Trimming.{dropped}
 use Rattle.text.proofs.Cases.{by-bool}
-use Rattle.plan.specs.Scans.{piece, isVoid, belongsTo, extent, breaksAfter, breaks, endsInBreak, lineCount, linesOf}
-use Rattle.plan.proofs.Pieces.{extent-le}
+use Rattle.readers.specs.Scans.{piece, isVoid, belongsTo, extent, breaksAfter, breaks, endsInBreak, lineCount, linesOf}
+use Rattle.readers.proofs.Pieces.{extent-le}
 use Rattle.joining.specs.Tokens.{Closed, topLevel}
 use Rattle.joining.proofs.Inline.{Ended, to-break, or-left, or-right, by-break}
 

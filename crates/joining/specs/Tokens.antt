@@ -7,7 +7,7 @@ use mathlib.Core.Bool.{Bool, true, false, not, _&&_, _||_}
 use lib.Dec.{eqb}
 use lib.ListN.{length}
 use Rattle.text.specs.Bytes.{isBlank, isBreak}
-use Rattle.plan.specs.Scans.{breaks, endsInBreak}
+use Rattle.readers.specs.Scans.{breaks, endsInBreak}
 use Rattle.tokenizer.specs.Lists.{tokens}
 use Rattle.joining.specs.Raising.{raised}
 

@@ -15,12 +15,12 @@ use Rattle.text.proofs.Front.{break-pos}
 use Rattle.text.specs.declared.bytes.Part.{Part}
 use Rattle.text.specs.Bytes.{lineEnd}
 use Rattle.text.specs.declared.trimming.Dropped.the-variants.{Blanks, BlanksAndBreaks}
-use Rattle.plan.specs.Scans.{blanks, plainEnd, textEnd, checkedOf, extent, linesOf}
+use Rattle.readers.specs.Scans.{blanks, plainEnd, textEnd, checkedOf, extent, linesOf}
 use Rattle.plan.specs.Plan.{said, withValue, hintMarks, cleared, planNewline, planComment, planItem, planKey, planPlain, planMultiline, planOutdent}
 use Rattle.tokenizer.specs.Step.{bytesOf, sizeOf, afterPlan, stepWith, stepRule, stepOf}
 use Rattle.tokenizer.specs.Lists.{isEnd}
-use Rattle.plan.specs.declared.readers.Text.{Text}
-use Rattle.plan.specs.declared.readers.Text.the-variants.{Good, Bad}
+use Rattle.readers.specs.declared.readers.Text.{Text}
+use Rattle.readers.specs.declared.readers.Text.the-variants.{Good, Bad}
 use Rattle.plan.specs.declared.plan.Marks.{Marks}
 use Rattle.plan.specs.declared.plan.Says.{Says}
 use Rattle.tokenizer.specs.declared.token.Token.{Token}

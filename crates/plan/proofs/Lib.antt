@@ -1,5 +1,2 @@
-pub mod Related
-pub mod Quotes
-pub mod Pieces
 pub mod Plans
 pub mod PlanCases

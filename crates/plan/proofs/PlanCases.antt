@@ -10,7 +10,7 @@ use borrow.Author.Tests.{ltb-true, ltb-false}
 use Rattle.text.specs.Bytes.{isBreak, lineEnd, startsWith}
 use Rattle.text.specs.declared.trimming.Dropped.the-variants.{Blanks}
 use Rattle.text.proofs.Cases.{on-cond}
-use Rattle.plan.specs.Scans.{relationOf, plainEnd, checkedOf, beginsHint}
+use Rattle.readers.specs.Scans.{relationOf, plainEnd, checkedOf, beginsHint}
 use Rattle.plan.specs.Plan.{
   keeps,
   shiftedBy,
@@ -35,8 +35,8 @@ use Rattle.plan.specs.Plan.{
   planOn,
   planAt,
 }
-use Rattle.plan.specs.declared.readers.Relation.{Relation}
-use Rattle.plan.specs.declared.readers.Relation.the-variants.{Equal, Deeper, Other}
+use Rattle.readers.specs.declared.readers.Relation.{Relation}
+use Rattle.readers.specs.declared.readers.Relation.the-variants.{Equal, Deeper, Other}
 use Rattle.plan.specs.declared.plan.Marks.{Marks}
 use Rattle.plan.specs.declared.plan.Says.the-variants.{End, Indent, Outdent, MultilineHint, Refused}
 use Rattle.plan.specs.declared.plan.Change.the-variants.{Open, Close}

@@ -17,12 +17,12 @@ use Rattle.text.specs.declared.trimming.Dropped.{Dropped}
 use Rattle.text.proofs.Cases.{by-bool}
 use Rattle.text.proofs.Front.{empty, no-break, break-pos}
 use Rattle.text.proofs.Trimmed.{trimmed-le}
-use Rattle.plan.specs.Scans.{checkedOf, textEnd, eqSize, linesOf}
-use Rattle.plan.specs.declared.readers.Text.the-variants.{Good}
+use Rattle.readers.specs.Scans.{checkedOf, textEnd, eqSize, linesOf}
+use Rattle.readers.specs.declared.readers.Text.the-variants.{Good}
 use Rattle.plan.specs.declared.plan.Marks.{Marks}
 use Rattle.plan.specs.Plan.{planOn, planEnd, planNewline, planComment, planIndented, planEntry}
-use Rattle.plan.proofs.Quotes.{text-le, eq-le}
-use Rattle.plan.proofs.Pieces.{extent-le}
+use Rattle.readers.proofs.Quotes.{text-le, eq-le}
+use Rattle.readers.proofs.Pieces.{extent-le}
 
 -- What is passed and said lies within the text
 

@@ -9,11 +9,11 @@ use lib.Dec.{eqb, ltb}
 use Rattle.text.specs.Bytes.{isBreak, breakSize, lineEnd, startsWith}
 use Rattle.text.specs.declared.bytes.Part.{Part}
 use Rattle.text.specs.declared.trimming.Dropped.the-variants.{Blanks, BlanksAndBreaks}
-use Rattle.plan.specs.Scans.{relationOf, plainEnd, textEnd, checkedOf, beginsHint, eqSize, linesOf}
-use Rattle.plan.specs.declared.readers.Relation.{Relation}
-use Rattle.plan.specs.declared.readers.Relation.the-variants.{Equal, Deeper, Other}
-use Rattle.plan.specs.declared.readers.Text.{Text}
-use Rattle.plan.specs.declared.readers.Text.the-variants.{Good, Bad}
+use Rattle.readers.specs.Scans.{relationOf, plainEnd, textEnd, checkedOf, beginsHint, eqSize, linesOf}
+use Rattle.readers.specs.declared.readers.Relation.{Relation}
+use Rattle.readers.specs.declared.readers.Relation.the-variants.{Equal, Deeper, Other}
+use Rattle.readers.specs.declared.readers.Text.{Text}
+use Rattle.readers.specs.declared.readers.Text.the-variants.{Good, Bad}
 use Rattle.plan.specs.declared.plan.Marks.{Marks}
 use Rattle.plan.specs.declared.plan.Says.{Says}
 use Rattle.plan.specs.declared.plan.Says.the-variants.{

@@ -1,13 +1,13 @@
 // What one step does, counted from its place: the plan knows neither places nor lines.
-use crate::readers::Relation;
-use crate::readers::Text;
-use crate::readers::begins_hint;
-use crate::readers::checked;
-use crate::readers::eq_size;
-use crate::readers::multiline_len;
-use crate::readers::plain_len;
-use crate::readers::relate;
-use crate::readers::text_len;
+use readers::Relation;
+use readers::Text;
+use readers::begins_hint;
+use readers::checked;
+use readers::eq_size;
+use readers::multiline_len;
+use readers::plain_len;
+use readers::relate;
+use readers::text_len;
 use text::Dropped;
 use text::First;
 use text::Part;

@@ -14,7 +14,7 @@ use Rattle.text.specs.declared.bytes.Part.{Part}
 use Rattle.text.specs.declared.trimming.Dropped.{Dropped}
 use Rattle.text.specs.declared.trimming.Dropped.the-variants.{Blanks, BlanksAndBreaks}
 use Rattle.text.proofs.Cases.{on-cond}
-use Rattle.plan.specs.Scans.{blanks, plainEnd, textEnd, checkedOf, extent, linesOf}
+use Rattle.readers.specs.Scans.{blanks, plainEnd, textEnd, checkedOf, extent, linesOf}
 use Rattle.plan.specs.Plan.{shiftedBy, said, planNewline, planComment, planItem, planKey, planPlain, planMultiline, planOutdent}
 use Rattle.tokenizer.specs.Step.{bytesOf, sizeOf}
 use Rattle.plan.specs.declared.plan.Says.{Says}
@@ -25,7 +25,7 @@ use Rattle.tokenizer.specs.declared.state.Held.{Held}
 use Rattle.tokenizer.specs.declared.state.Held.the-variants.{Nothing, At}
 use Rattle.tokenizer.specs.declared.state.State.{State}
 use Rattle.tokenizer.proofs.Bounds.{rest-size}
-use Rattle.plan.proofs.Quotes.{hint-le}
+use Rattle.readers.proofs.Quotes.{hint-le}
 use Rattle.reading.specs.Claims.{Text, TokenFits}
 use Rattle.reading.proofs.Texts.{text-trimmed, text-take, text-drop, indentation-text, blanks-le}
 use Rattle.reading.proofs.Sound.{restOf, indentAt, planOf, answerAt, StepCases, step-cases, Sound, indent-sound}

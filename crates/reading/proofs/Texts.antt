@@ -17,7 +17,7 @@ use Rattle.text.specs.declared.trimming.Dropped.the-variants.{Blanks}
 use Rattle.text.proofs.Cases.{by-bool}
 use Rattle.text.proofs.Scan.{count-le}
 use Rattle.text.proofs.Trimmed.{utf8-start, dropped-ascii, trimmed-le, trimmed-utf8}
-use Rattle.plan.specs.Scans.{blanks}
+use Rattle.readers.specs.Scans.{blanks}
 use Rattle.plan.specs.Plan.{shiftedBy}
 use Rattle.tokenizer.specs.Step.{bytesOf, noPart}
 use Rattle.reading.specs.Claims.{Within, Text}

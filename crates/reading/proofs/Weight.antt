@@ -13,13 +13,13 @@ use Rattle.text.specs.Bytes.{isBreak, countWhile, lineEnd}
 use Rattle.text.specs.declared.bytes.Part.{Part}
 use Rattle.text.specs.declared.trimming.Dropped.the-variants.{Blanks}
 use Rattle.text.proofs.Cases.{by-bool, and-left, and-right}
-use Rattle.plan.specs.Scans.{relationOf, stops, plainEnd, quotesEnd, textEnd, checkedOf, linesOf}
+use Rattle.readers.specs.Scans.{relationOf, stops, plainEnd, quotesEnd, textEnd, checkedOf, linesOf}
 use Rattle.plan.specs.Plan.{planNewline, planComment, planItem, planKey, planPlain, withValue, hintMarks, planMultiline, planOutdent}
 use Rattle.tokenizer.specs.Step.{bytesOf, indentOf, sizeOf, innerOf, afterPlan}
 use Rattle.tokenizer.specs.Lists.{isEnd}
-use Rattle.plan.specs.declared.readers.Relation.the-variants.{Deeper, Other}
-use Rattle.plan.specs.declared.readers.Text.{Text}
-use Rattle.plan.specs.declared.readers.Text.the-variants.{Good, Bad}
+use Rattle.readers.specs.declared.readers.Relation.the-variants.{Deeper, Other}
+use Rattle.readers.specs.declared.readers.Text.{Text}
+use Rattle.readers.specs.declared.readers.Text.the-variants.{Good, Bad}
 use Rattle.plan.specs.declared.plan.Marks.{Marks}
 use Rattle.plan.specs.declared.plan.Plan.{Plan}
 use Rattle.tokenizer.specs.declared.state.Held.{Held}

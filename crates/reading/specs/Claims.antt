@@ -6,7 +6,7 @@ use mathlib.Core.Bool.{true}
 use lib.ListN.{length, drop}
 use Rattle.text.specs.Utf8.{utf8}
 use Rattle.text.specs.declared.bytes.Part.{Part}
-use Rattle.plan.specs.Scans.{blanks}
+use Rattle.readers.specs.Scans.{blanks}
 use Rattle.tokenizer.specs.Step.{bytesOf, stepOf, fresh}
 use Rattle.tokenizer.specs.Lists.{Reads, TokenList, tokens}
 use Rattle.tokenizer.specs.declared.token.Token.{Token}

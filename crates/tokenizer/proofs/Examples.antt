@@ -6,7 +6,7 @@ use Rattle.text.specs.Bytes.{isBlank, isBreak, breakSize, countWhile, startsWit
 use Rattle.text.specs.Trimming.{dropped, keptEnd, trimmed}
 use Rattle.text.specs.Utf8.{within, leadOf, owes, utf8}
 use Rattle.text.specs.declared.bytes.Part.{Part}
-use Rattle.plan.specs.Scans.{
+use Rattle.readers.specs.Scans.{
   blanks,
   relationOf,
   stops,

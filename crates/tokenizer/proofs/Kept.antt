@@ -14,7 +14,7 @@ use Rattle.text.specs.declared.bytes.Part.{Part}
 use Rattle.text.specs.declared.trimming.Dropped.the-variants.{Blanks}
 use Rattle.text.proofs.Cases.{on-cond, and-right}
 use Rattle.text.proofs.Scan.{count-le}
-use Rattle.plan.specs.Scans.{blanks}
+use Rattle.readers.specs.Scans.{blanks}
 use Rattle.tokenizer.specs.Step.{
   noPart,
   indentOf,

@@ -9,7 +9,7 @@ use Rattle.text.specs.declared.bytes.Part.{Part}
 use Rattle.text.specs.declared.trimming.Dropped.{Dropped}
 use Rattle.text.proofs.Cases.{on-cond}
 use Rattle.tokenizer.specs.Token.{tokenValues, valuesOf}
-use Rattle.plan.specs.Scans.{checkedOf}
+use Rattle.readers.specs.Scans.{checkedOf}
 use Rattle.plan.specs.Plan.{said, planNewline, planComment, planItem, planKey, planPlain, planMultiline, planOutdent, planAt}
 use Rattle.tokenizer.specs.Step.{answerOf, planWith, stepWith, stepRule, fit, stepOf}
 use Rattle.plan.specs.declared.plan.Marks.{Marks}

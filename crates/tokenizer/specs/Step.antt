@@ -5,7 +5,7 @@ use mathlib.Core.Bool.{Bool, true, false, cond, _&&_}
 use lib.ListN.{length, take, drop, getD, set, replicate}
 use lib.Dec.{leb, ltb}
 use Rattle.text.specs.declared.bytes.Part.{Part}
-use Rattle.plan.specs.Scans.{blanks}
+use Rattle.readers.specs.Scans.{blanks}
 use Rattle.plan.specs.Plan.{shiftedBy, planAt}
 use Rattle.plan.specs.declared.plan.Says.{Says}
 use Rattle.plan.specs.declared.plan.Says.the-variants.{

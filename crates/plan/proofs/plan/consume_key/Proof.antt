@@ -5,7 +5,7 @@ use lib.Seq.{length-take-le}
 use borrow.Author.Needs.{needs}
 use Rattle.text.proofs.Front.{from}
 use Rattle.plan.specs.Plan.{planKey}
-use Rattle.plan.proofs.Quotes.{text-le}
+use Rattle.readers.proofs.Quotes.{text-le}
 use Rattle.plan.proofs.Plans.{good-fits, key-le}
 use Rattle.plan.proofs.plan.consume_key.Statement.{statement}
 use Rattle.plan.proofs.plan.consume_key.Tie as tie

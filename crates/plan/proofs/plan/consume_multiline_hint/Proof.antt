@@ -5,7 +5,7 @@ use native.Mathlib.Omega.{arith}
 use lib.Seq.{length-take-le}
 use borrow.Author.Needs.{needs}
 use Rattle.plan.specs.Plan.{planHint}
-use Rattle.plan.proofs.Quotes.{plain-le}
+use Rattle.readers.proofs.Quotes.{plain-le}
 use Rattle.plan.proofs.Plans.{good-fits}
 use Rattle.plan.proofs.plan.consume_multiline_hint.Statement.{statement}
 use Rattle.plan.proofs.plan.consume_multiline_hint.Tie as tie

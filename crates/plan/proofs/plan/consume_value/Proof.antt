@@ -7,9 +7,9 @@ use lib.Seq.{length-take-le}
 use borrow.Author.Needs.{needs}
 use Rattle.text.proofs.Front.{from}
 use Rattle.plan.specs.Plan.{planValue, planPlain}
-use Rattle.plan.proofs.Quotes.{text-le}
+use Rattle.readers.proofs.Quotes.{text-le}
 use Rattle.plan.proofs.Plans.{good-fits}
-use Rattle.plan.proofs.Quotes.{hint-le}
+use Rattle.readers.proofs.Quotes.{hint-le}
 use Rattle.plan.proofs.plan.consume_value.Statement.{statement}
 use Rattle.plan.proofs.plan.consume_value.Tie as tie
 
