@@ -7,10 +7,10 @@ ghost use Rattle.text.specs.Utf8.{utf8};
 ghost use Rattle.text.specs.Trimming.{dropped, trimmed};
 ghost use Rattle.batch.specs.Words.{freshIn};
 ghost use Rattle.batch.specs.Rows.{batchOf};
-ghost use Rattle.batch.specs.ParserWords.{freshParserIn};
-ghost use Rattle.batch.specs.Parsing.{parseBatchOf};
-ghost use Rattle.batch.specs.Texts.{textOf};
-ghost use Rattle.batch.specs.Found.{foundIn};
+ghost use Rattle.parses.specs.ParserWords.{freshParserIn};
+ghost use Rattle.parses.specs.Parsing.{parseBatchOf};
+ghost use Rattle.answers.specs.Texts.{textOf};
+ghost use Rattle.answers.specs.Found.{foundIn};
 ghost use Rattle.abi.specs.Lent.{whichOf, partIn};
 
 // Whether s is well-formed UTF-8.
@@ -74,7 +74,7 @@ pub extern "C" fn conl_fresh_parser(state: &mut [usize]) -> bool
     ensures { λ r. ⌜ r ≡ leb 213 (length (now (state .entry))) ⌝ }
     ensures { λ r. ⌜ now (state .exit) ≡ freshParserIn (now (state .entry)) ⌝ }
 {
-    batch::fresh_parser(state)
+    parses::fresh_parser(state)
 }
 
 // The same as conl_tokenize with the parser's answers and state; it stops before a 15 too, and the next call returns it.
@@ -84,7 +84,7 @@ pub extern "C" fn conl_parse(doc: &[u8], state: &mut [usize], rows: &mut [usize]
     ensures { λ r. ⌜ now (state .exit) ≡ parseBatchOf (now (doc .entry)) (now (state .entry)) (now (rows .entry)) .words ⌝ }
     ensures { λ r. ⌜ now (rows .exit) ≡ parseBatchOf (now (doc .entry)) (now (state .entry)) (now (rows .entry)) .rows ⌝ }
 {
-    batch::parse(doc, state, rows)
+    parses::parse(doc, state, rows)
 }
 
 // Unescapes the token of a row, and writes the answer at the front of its words: 0, 0, 0, start and end of a plain part; 1, 0,
@@ -101,7 +101,7 @@ pub extern "C" fn conl_unescape(
     ensures { λ r. ⌜ now (out .exit) ≡ textOf (now (doc .entry)) (now (row .entry)) (now (out .entry)) (now (answer .entry)) .buffer ⌝ }
     ensures { λ r. ⌜ now (answer .exit) ≡ textOf (now (doc .entry)) (now (row .entry)) (now (out .entry)) (now (answer .entry)) .words ⌝ }
 {
-    batch::unescape(doc, row, out, answer)
+    answers::unescape(doc, row, out, answer)
 }
 
 // Looks up the first top-level key with the bytes of wanted, and writes the answer at the front of its words: 0, 0, 0, 0, 0 for
@@ -112,5 +112,5 @@ pub extern "C" fn conl_look_up(doc: &[u8], wanted: &[u8], answer: &mut [usize]) 
     ensures { λ r. ⌜ r ≡ leb 5 (length (now (answer .entry))) ⌝ }
     ensures { λ r. ⌜ now (answer .exit) ≡ foundIn (now (doc .entry)) (now (wanted .entry)) (now (answer .entry)) ⌝ }
 {
-    batch::look_up(doc, wanted, answer)
+    answers::look_up(doc, wanted, answer)
 }

@@ -1,5 +1,5 @@
--- Writing over a list from a place on: none, one more, one more of a list, and next to those that stand at the front.
-use Prim.Native.Nat.{ℕ, _+_, _<_}
+-- Writing over a list from a place on: with room and with none, nothing, one more, one more of a list, and next to those that stand at the front.
+use Prim.Native.Nat.{ℕ, _+_, _≤_, _<_}
 use mathlib.Core.Path.{_≡_}
 use mathlib.Core.List.{List, [], _∷_, _++_, append-nil, append-assoc}
 use native.Mathlib.Nat.{add-zero, zero-add}
@@ -7,11 +7,22 @@ use native.Mathlib.Numerals.{add-one}
 use native.Mathlib.Omega.{arith}
 use lib.ListN.{length, take, drop, getD, set, length-append, take-append-drop}
 use lib.Seq.{drop-cons, drop-drop, drop-append-add, take-suc, take-append-seam, set-at, append-snoc, length-take-le}
-use Rattle.batch.specs.Words.{pasted}
+use borrow.Author.Tests.{lt-leb, le-leb}
+use Rattle.batch.specs.Words.{pasted, pastedIn}
 
 pub pasted-none : (n : ℕ) (w : List ℕ) → w ≡ pasted [] n w
 unfolding pasted
 pasted-none n w = rw (append-nil, add-zero, take-append-drop)
+
+-- s has room
+pub pasted-room : (s w : List ℕ) (n : ℕ) → n + length s ≤ length w → pastedIn s n w ≡ pasted s n w
+unfolding pastedIn
+pasted-room s w n h = rw (le-leb (n + length s) (length w) h)
+
+-- s has none
+pub pasted-no-room : (s w : List ℕ) (n : ℕ) → length w < n + length s → w ≡ pastedIn s n w
+unfolding pastedIn
+pasted-no-room s w n h = rw (lt-leb (n + length s) (length w) h)
 
 -- one more after the i that are written
 pub written-more : {A : Type 0} (p l : List A) (a z : A) (i : ℕ) → length p ≡ i → i < length l

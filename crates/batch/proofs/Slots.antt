@@ -4,23 +4,23 @@ use mathlib.Core.Path.{_≡_, refl, ap, _∙_}
 use mathlib.Core.List.{List, [], _∷_, _++_, append-assoc}
 use native.Mathlib.Numerals.{add-one}
 use native.Mathlib.Omega.{arith}
-use lib.ListN.{length, take, drop, getD, set, length-append}
+use lib.ListN.{length, take, drop, getD, set, length-append, length-map}
 use lib.Seq.{getD-drop, take-suc, length-take-le}
+use mir.Val.{Val}
+use denote.Laws.{Is}
+use denote.Struct.Declared.{row}
 use Rattle.text.specs.declared.bytes.Part.{Part}
 use Rattle.tokenizer.specs.declared.state.Held.{Held}
 use Rattle.tokenizer.specs.declared.state.Held.the-variants.{Nothing, At}
 use Rattle.tokenizer.specs.declared.state.State.{State}
-use Rattle.batch.specs.Words.{pasted, heldWords, partWords, frontWords, wordsOf, partsIn, stateIn}
+use Rattle.tokenizer.proofs.state.State.{the-type}
+use Rattle.batch.specs.Words.{pasted, heldWords, partWords, frontWords, wordsOf, partsIn}
 use Rattle.batch.proofs.Pasting.{written-more, pasted-more, pasted-front, pasted-after}
 
 parts-length : (n : ℕ) (w : List ℕ) → length (partsIn n w) ≡ n
 unfolding partsIn
 parts-length zero w = refl
 parts-length (suc n) w = ap suc (parts-length n (drop 2 w))
-
-pub slots-64 : (w : List ℕ) → length (stateIn w .indents) ≡ 64
-unfolding stateIn
-slots-64 w = parts-length 64 (drop 9 w)
 
 -- the part after n others
 parts-more : (n : ℕ) (w : List ℕ)
@@ -74,6 +74,10 @@ held-words (At p) d = refl
 front-9 : (s : State) → length (frontWords s) ≡ 9
 unfolding frontWords
 front-9 s = rw (← held-words (s .held) (s .depth))
+
+-- a state that is owned has 64 slots
+pub owned-64 : (s : State) {v : List Val} → Is (row the-type) s v → length (s .indents) ≡ 64
+owned-64 s o = rw length-map at (o .1 .1 .1 .1 .1 .1 .0 .1 .0 .1)
 
 slot-words-128 : (s : State) → length (s .indents) ≡ 64 → length (partWords (s .indents)) ≡ 128
 slot-words-128 s e = rw (part-words-length, e)

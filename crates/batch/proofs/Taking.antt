@@ -6,11 +6,10 @@ use mathlib.Core.Bool.{true, false}
 use native.Mathlib.Nat.{sub-zero}
 use native.Mathlib.Omega.{arith}
 use lib.ListN.{length, length-append}
-use Rattle.text.proofs.Cases.{on-cond}
 use Rattle.tokenizer.specs.Token.{Values}
-use Rattle.batch.specs.Words.{pasted}
+use Rattle.batch.specs.Words.{pasted, pastedIn}
 use Rattle.batch.specs.Rows.{rowOf, rowsOf, rowsIn, Steps, Taken, taken}
-use Rattle.batch.proofs.Pasting.{pasted-after}
+use Rattle.batch.proofs.Pasting.{pasted-room, pasted-after}
 
 rows-append : (l m : List Values) → rowsOf (l ++ m) ≡ rowsOf l ++ rowsOf m
 unfolding rowsOf
@@ -57,28 +56,21 @@ module _ {S : Type 0} (m : Steps S) where
   unfolding taken
   taken-more n s l e = rw (e, append-assoc)
 
-  -- what every step keeps, the batch keeps
-  pub taken-keeps : (P : S → Type 0) → ((s : S) → P s → P (m .next s)) → (n : ℕ) (s : S) → P s → P (taken m n s .state)
-  unfolding taken
-  taken-keeps P k zero s p = p
-  taken-keeps P k (suc n) s p =
-      on-cond (λ (t : Taken S). P (t .state)) (m .stops s) (λ e. p) (λ e. taken-keeps P k n (m .next s) (k s p))
-
   module _ (w₀ : List ℕ) (room : ℕ) (s₀ : S) where
     pub start : Turn m w₀ w₀ room 0 s₀ s₀
     unfolding rowsIn rowsOf
     start = record { bound = omega arith; answers = []; count = refl; rows = refl; left = rw sub-zero }
 
     module _ {w : List ℕ} {n : ℕ} {s : S} (t : Turn m w₀ w room n s₀ s) where
-      pub next : {v : List ℕ} {u : S} → n < room → m .stops s ≡ false → v ≡ pasted (rowOf (m .says s)) (7 * n) w → u ≡ m .next s
-          → Turn m w₀ v room (n + 1) s₀ u
-      next h e r q =
+      pub next : {v : List ℕ} {u : S} → n < room → 7 * n + 7 ≤ length w → m .stops s ≡ false
+          → v ≡ pastedIn (rowOf (m .says s)) (7 * n) w → u ≡ m .next s → Turn m w₀ v room (n + 1) s₀ u
+      next h l e r q =
           let k : room - n ≡ suc (room - (n + 1)) = omega arith in
           record {
             bound = omega arith;
             answers = t .answers ++ (m .says s ∷ []);
             count = rw (length-append, t .count);
-            rows = rw (r, t .rows, ← t .count) (row-more (t .answers) (m .says s) w₀);
+            rows = rw (r, pasted-room (rowOf (m .says s)) w (7 * n) l, t .rows, ← t .count) (row-more (t .answers) (m .says s) w₀);
             left = rw q (rw (k, taken-more (room - (n + 1)) s (t .answers) e) at (t .left));
           }
 

@@ -15,6 +15,10 @@ use Rattle.tokenizer.specs.Step.{fresh}
 unfoldable pub pasted : List ℕ → ℕ → List ℕ → List ℕ
 pasted s n w = take n w ++ s ++ drop (n + length s) w
 
+-- the same where they fit; else w as it is
+unfoldable pub pastedIn : List ℕ → ℕ → List ℕ → List ℕ
+pastedIn s n w = cond (leb (n + length s) (length w)) (pasted s n w) w
+
 unfoldable pub flag : Bool → ℕ
 flag true = 1
 flag false = 0
@@ -37,6 +41,10 @@ frontWords s =
 unfoldable pub wordsOf : State → List ℕ
 wordsOf s = frontWords s ++ partWords (s .indents)
 
+-- the words with the state at their front; unchanged where there are fewer than 137
+unfoldable pub storedIn : State → List ℕ → List ℕ
+storedIn s w = cond (leb 137 (length w)) (wordsOf s ++ drop 137 w) w
+
 -- the parts in 2n words
 unfoldable pub partsIn : ℕ → List ℕ → List Part
 partsIn zero w = []
@@ -53,10 +61,14 @@ stateIn w = record {
   depth = getD w 8 0;
 }
 
+-- the same where there are 137 words; else the fresh state
+unfoldable pub loadedFrom : List ℕ → State
+loadedFrom w = cond (leb 137 (length w)) (stateIn w) fresh
+
 -- the words are a state's: there are 137, and what is to be 0 or 1 is; else they are an unfit state, 15
 unfoldable pub readable : List ℕ → Bool
 readable w = leb 137 (length w) && (leb (getD w 2 0) 1 && (leb (getD w 3 0) 1 && (leb (getD w 4 0) 1 && leb (getD w 5 0) 1)))
 
--- the words with the fresh state at their front; unchanged where there are fewer than 137
-unfoldable pub freshIn : List ℕ → List ℕ
-freshIn w = cond (leb 137 (length w)) (wordsOf fresh ++ drop 137 w) w
+-- the words with the fresh state at their front
+abbrev pub freshIn : List ℕ → List ℕ
+freshIn w = storedIn fresh w

@@ -1,15 +1,15 @@
-// Batches of steps, unescaping and the look-up over lent words, for callers in C and Rust.
-mod found;
-mod parser_words;
-mod parses;
+// A batch of the tokenizer's steps over lent words, and the words of a state, for callers in C and Rust.
 mod rows;
-mod texts;
 mod words;
 
-pub use found::look_up;
-pub use parser_words::fresh_parser;
-pub use parses::parse;
+pub use rows::TOO_LONG;
+pub use rows::UNFIT;
+pub use rows::bare_row;
 pub use rows::token_row;
 pub use rows::tokenize;
-pub use texts::unescape;
+pub use words::flag_of;
 pub use words::fresh;
+pub use words::is_readable;
+pub use words::load;
+pub use words::paste;
+pub use words::store;

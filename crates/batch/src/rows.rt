@@ -16,11 +16,12 @@ ghost use Rattle.tokenizer.specs.Lists.{isEnd};
 ghost use Rattle.batch.specs.Rows.{rowOf, rowsIn, taken, tokenizing, batchOf};
 
 // The refusals before the first step: 2^63, which is above any count of rows, and 12 or 15.
-pub(crate) const TOO_LONG: usize = 0x8000_0000_0000_000C;
+pub const TOO_LONG: usize = 0x8000_0000_0000_000C;
 
-pub(crate) const UNFIT: usize = 0x8000_0000_0000_000F;
+pub const UNFIT: usize = 0x8000_0000_0000_000F;
 
-pub(crate) fn bare_row(number: usize, line: usize) -> [usize; 7]
+// The row of a number and a line, with no text.
+pub fn bare_row(number: usize, line: usize) -> [usize; 7]
     ensures { λ r. ⌜ r ≡ rowOf (bare number line) ⌝ }
 {
     [number, line, 0, 0, 0, 0, 0]

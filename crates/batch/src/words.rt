@@ -4,25 +4,26 @@ use text::Part;
 use tokenizer::Held;
 use tokenizer::State;
 ghost use mathlib.Core.Path.{_≡_};
-ghost use mathlib.Core.List.{_++_};
-ghost use Prim.Native.Nat.{_+_, _≤_};
+ghost use Prim.Native.Nat.{_≤_};
 ghost use lib.Dec.{leb};
 ghost use lib.ListN.{length, drop};
 ghost use Rattle.batch.specs.Words.{
   pasted,
+  pastedIn,
   flag,
   heldWords,
   partWords,
   frontWords,
-  wordsOf,
+  storedIn,
   partsIn,
   stateIn,
+  loadedFrom,
   readable,
   freshIn,
 };
 
 // Whether the words are a state's.
-pub(crate) fn is_readable(w: &[usize]) -> bool
+pub fn is_readable(w: &[usize]) -> bool
     ensures { λ r. ⌜ r ≡ readable (now (w .entry)) ⌝ }
 {
     if w.len() < 137 {
@@ -62,11 +63,13 @@ fn indents_in(w: &[usize]) -> [Part; 64]
     indents
 }
 
-// The state in the words.
-pub(crate) fn load(w: &[usize]) -> State
-    requires { ⌜ 137 ≤ length (now w) ⌝ }
-    ensures { λ r. ⌜ r ≡ stateIn (now (w .entry)) ⌝ }
+// The state in the words; the fresh one where there are fewer than 137.
+pub fn load(w: &[usize]) -> State
+    ensures { λ r. ⌜ r ≡ loadedFrom (now (w .entry)) ⌝ }
 {
+    if w.len() < 137 {
+        return State::new();
+    }
     let held = held_in(w);
     let indents = indents_in(w);
     State {
@@ -83,7 +86,8 @@ pub(crate) fn load(w: &[usize]) -> State
     }
 }
 
-pub(crate) fn flag_of(b: bool) -> usize
+// A mark's word.
+pub fn flag_of(b: bool) -> usize
     ensures { λ r. ⌜ r ≡ flag b ⌝ }
 {
     if b { 1 } else { 0 }
@@ -118,11 +122,16 @@ fn front(s: State) -> [usize; 9]
     ]
 }
 
-// Copies src over the words of dst from `at` on.
-pub(crate) fn paste(src: &[usize], at: usize, dst: &mut [usize])
-    requires { ⌜ at + length (now src) ≤ length (now dst) ⌝ }
-    ensures { λ _. ⌜ now (dst .exit) ≡ pasted (now (src .entry)) at (now (dst .entry)) ⌝ }
+// Copies src over the words of dst from `at` on; nothing where it does not fit.
+pub fn paste(src: &[usize], at: usize, dst: &mut [usize])
+    ensures { λ _. ⌜ now (dst .exit) ≡ pastedIn (now (src .entry)) at (now (dst .entry)) ⌝ }
 {
+    if dst.len() < at {
+        return;
+    }
+    if dst.len() - at < src.len() {
+        return;
+    }
     let mut i = 0;
     while i < src.len() {
         dst[at + i] = src[i];
@@ -133,7 +142,6 @@ pub(crate) fn paste(src: &[usize], at: usize, dst: &mut [usize])
 // Writes the slots where indents_in reads them.
 fn put_indents(indents: [Part; 64], w: &mut [usize])
     requires { ⌜ 137 ≤ length (now w) ⌝ }
-    requires { ⌜ length indents ≡ 64 ⌝ }
     ensures { λ _. ⌜ now (w .exit) ≡ pasted (partWords indents) 9 (now (w .entry)) ⌝ }
 {
     let mut k = 0;
@@ -145,16 +153,19 @@ fn put_indents(indents: [Part; 64], w: &mut [usize])
     }
 }
 
-// Writes the state at the front of the words.
-pub(crate) fn store(s: State, w: &mut [usize])
-    requires { ⌜ 137 ≤ length (now w) ⌝ }
-    requires { ⌜ length (s .indents) ≡ 64 ⌝ }
-    ensures { λ _. ⌜ now (w .exit) ≡ wordsOf s ++ drop 137 (now (w .entry)) ⌝ }
+// Writes the state at the front of the words: true; or false, with nothing written, where there are fewer than 137.
+pub fn store(s: State, words: &mut [usize]) -> bool
+    ensures { λ r. ⌜ r ≡ leb 137 (length (now (words .entry))) ⌝ }
+    ensures { λ r. ⌜ now (words .exit) ≡ storedIn s (now (words .entry)) ⌝ }
 {
+    if words.len() < 137 {
+        return false;
+    }
     let indents = s.indents;
     let f = front(s);
-    paste(&f, 0, w);
-    put_indents(indents, w);
+    paste(&f, 0, words);
+    put_indents(indents, words);
+    true
 }
 
 // Writes the fresh state at the front: true; or false, with nothing written, where there are fewer than 137 words.
@@ -162,9 +173,5 @@ pub fn fresh(state: &mut [usize]) -> bool
     ensures { λ r. ⌜ r ≡ leb 137 (length (now (state .entry))) ⌝ }
     ensures { λ r. ⌜ now (state .exit) ≡ freshIn (now (state .entry)) ⌝ }
 {
-    if state.len() < 137 {
-        return false;
-    }
-    store(State::new(), state);
-    true
+    store(State::new(), state)
 }

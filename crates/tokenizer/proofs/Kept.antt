@@ -1,18 +1,17 @@
 -- What a step keeps: a fit state of a document within the limit stays fit, so that neither 12 nor 15 comes after a step that
--- was neither; and any state keeps its number of slots for indentations.
+-- was neither.
 use Prim.Native.Nat.{ℕ, zero, suc, _+_, _-_, _≤_}
 use mathlib.Core.Path.{_≡_, refl}
 use mathlib.Core.List.{List, [], _∷_}
 use mathlib.Core.Bool.{true}
 use native.Mathlib.Numerals.{add-one, sub-one}
 use native.Mathlib.Omega.{arith}
-use lib.Dec.{ltb}
-use lib.ListN.{length, drop, getD, set, length-drop, length-set}
+use lib.ListN.{length, drop, getD, set, length-drop}
 use lib.Seq.{getD-set-other}
 use Rattle.text.specs.Trimming.{dropped}
 use Rattle.text.specs.declared.bytes.Part.{Part}
 use Rattle.text.specs.declared.trimming.Dropped.the-variants.{Blanks}
-use Rattle.text.proofs.Cases.{on-cond, and-right}
+use Rattle.text.proofs.Cases.{and-right}
 use Rattle.text.proofs.Scan.{count-le}
 use Rattle.readers.specs.Scans.{blanks}
 use Rattle.tokenizer.specs.Step.{
@@ -37,7 +36,6 @@ use Rattle.plan.specs.declared.plan.Plan.{Plan}
 use Rattle.tokenizer.specs.declared.state.Held.{Held}
 use Rattle.tokenizer.specs.declared.state.Held.the-variants.{Nothing, At}
 use Rattle.tokenizer.specs.declared.state.State.{State}
-use Rattle.tokenizer.specs.declared.state.Step.{Step}
 use Rattle.tokenizer.proofs.Bounds.{Bounded, plan-bounded}
 use Rattle.tokenizer.proofs.Fitness.{Fitness, fitness, is-fit, part-fit}
 use Rattle.tokenizer.proofs.Steps.{ruled}
@@ -104,19 +102,3 @@ module _ (d : List ℕ) (s : State) where
   step-fit l e =
       let f = fitness (length d) s e in
       rw (ruled d s l e) (is-fit (length d) _ (after-fit _ _ f (indent-fit f) (plan-bounded _ _ _ _ _ _)))
-
-  after-slots : (i : Part) (p : Plan) → length (afterPlan s i p .indents) ≡ length (s .indents)
-  unfolding afterPlan
-  after-slots i p = at (p .change)
-    where
-      at : (c : Change) → length (indentsAfter c i (s .indents) (s .depth)) ≡ length (s .indents)
-      at Keep = refl
-      at Open = length-set (s .indents) (s .depth) i
-      at Close = refl
-      at Hold = refl
-
-  pub step-slots : length (stepOf d s .state .indents) ≡ length (s .indents)
-  unfolding stepOf stepRule stepWith
-  step-slots =
-      on-cond (λ (x : Step). length (x .state .indents) ≡ length (s .indents)) (ltb 16777216 (length d)) (λ e. refl)
-      (λ e. on-cond (λ (x : Step). length (x .state .indents) ≡ length (s .indents)) (fit (length d) s) (λ f. after-slots _ _) (λ f. refl))

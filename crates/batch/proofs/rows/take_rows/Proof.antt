@@ -54,9 +54,7 @@ mul-paste : tie.Need-mul-paste Inv-loop μ-loop
 mul-paste c = search needs
 
 paste-requires : tie.Need-paste-requires Inv-loop μ-loop
-paste-requires c κs =
-    let h = c .before .before .before .before .before .before .before in
-    omega (arith, ap length (c .before .before .row .ensures), h .before .loop .inv .0, h .loop-test .taken)
+paste-requires c κs = search needs
 
 add-n : tie.Need-add-n Inv-loop μ-loop
 add-n c = search needs
@@ -72,7 +70,8 @@ loop-again c =
     let l = m .before .before in
     let e = sym (tested (r .before .before)) ∙ r .before .if1 .left in
     let w = rw (r .row .ensures, m .step .ensures .0) at (p .paste .ensures) in
-    (p .paste .kept .1 .1 .0 ∙ l .loop .inv .0, next _ _ _ _ (l .loop .inv .1) (m .before .loop-test .taken) e w (m .step .ensures .1))
+    let h = m .before .loop-test .taken in
+    (p .paste .kept .1 .1 .0 ∙ l .loop .inv .0, next _ _ _ _ (l .loop .inv .1) h (omega (arith, h, l .loop .inv .0)) e w (m .step .ensures .1))
 
 same-length-2 : tie.Need-same-length-2 Inv-loop μ-loop
 same-length-2 c = c .before .loop .inv .0

@@ -1,20 +1,19 @@
--- `tokenize` takes the branches of `batchOf` (proofs/Batches); the state that is stored has as many slots as the one that was loaded.
+-- `tokenize` takes the branches of `batchOf` (proofs/Batches).
 use mathlib.Core.Path.{_≡_, sym, _∙_}
 use mathlib.Core.Bool.{true, and-false}
 use borrow.Author.Tests.{not-true, not-false}
-use lib.ListN.{length}
-use Rattle.tokenizer.proofs.Kept.{step-slots}
-use Rattle.batch.specs.Words.{readable}
-use Rattle.batch.specs.Rows.{tokenizing, batchOf}
-use Rattle.batch.proofs.Slots.{slots-64}
-use Rattle.batch.proofs.Taking.{taken-keeps}
-use Rattle.batch.proofs.Batches.{has-137, over, unfit, took, promised}
+use Rattle.batch.specs.Words.{stateIn, readable}
+use Rattle.batch.specs.Rows.{batchOf}
+use Rattle.batch.proofs.Batches.{has-137, loaded-137, stored-137, over, unfit, took, promised}
 use borrow.Author.Needs.{needs}
 use Rattle.batch.proofs.rows.tokenize.Statement.{statement}
 use Rattle.batch.proofs.rows.tokenize.Tie as tie
 
 read : (c : tie.Else2) → readable (c .before .before .before .before .before .before .before .args .state .now) ≡ true
 read c = sym (c .before .is-readable .ensures) ∙ not-false _ (c .if2 .left)
+
+loaded : (c : tie.After-load) → c .load .result ≡ stateIn (c .before .before .before .before .before .before .before .before .before .args .state .now)
+loaded c = c .load .ensures ∙ loaded-137 _ (has-137 _ (read (c .before .before)))
 
 returns : tie.Need-returns
 unfolding batchOf
@@ -33,7 +32,7 @@ returns-2 c =
     promised (unfit _ _ _ _ _ (c .before .before .before .if1 .left) (rw e))
 
 load-requires : tie.Need-load-requires
-load-requires c κs = has-137 _ (read (c .before))
+load-requires c κs = search needs
 
 fits-requires : tie.Need-fits-requires
 fits-requires c κs = search needs
@@ -46,19 +45,14 @@ unfolding batchOf
 returns-3 c =
     let s = c .before .before in
     let e = sym (c .before .fits2 .ensures) ∙ not-true _ (c .if3 .taken) in
-    let f = rw (s .load .ensures) at e in
+    let f = rw (loaded s) at e in
     promised (unfit _ _ _ _ _ (s .before .before .before .before .before .if1 .left) (rw (f, and-false)))
 
 take-rows-requires : tie.Need-take-rows-requires
 take-rows-requires c κs = search needs
 
 store-requires : tie.Need-store-requires
-store-requires c κs =
-    let t = c .before .before .before .before in
-    let s = t .before .before .before .before in
-    let e : length (s .load .result .indents) ≡ 64 = rw (s .load .ensures) (slots-64 _) in
-    let k = taken-keeps (tokenizing _) (λ x. length (x .indents) ≡ 64) (λ x h. step-slots _ x ∙ h) _ _ e in
-    (has-137 _ (read (s .before .before)), rw (t .take-rows .ensures .1 .0) k)
+store-requires c κs = search needs
 
 same-length-3 : tie.Need-same-length-3
 same-length-3 c = search needs
@@ -74,9 +68,10 @@ returns-4 c =
     let s = t .before .before .before .before in
     let k = s .before .before in
     let f = sym (t .before .before .before .fits2 .ensures) ∙ not-false _ (t .before .before .if3 .left) in
-    let q = promised (took _ _ _ _ (k .before .before .before .if1 .left) (read k) (rw (s .load .ensures) at f)) in
-    let r = rw (s .load .ensures) at (t .take-rows .ensures) in
-    (r .0 ∙ q .0, (rw (r .1 .0) at (m .store .ensures) ∙ q .1 .0, r .1 .1 ∙ q .1 .1))
+    let q = promised (took _ _ _ _ (k .before .before .before .if1 .left) (read k) (rw (loaded s) at f)) in
+    let r = rw (loaded s) at (t .take-rows .ensures) in
+    let w = m .store .ensures .1 ∙ stored-137 _ _ (has-137 _ (read k)) in
+    (r .0 ∙ q .0, (rw (r .1 .0) at w ∙ q .1 .0, r .1 .1 ∙ q .1 .1))
 
 pub tokenize-spec : {M : Type 1} → statement M
 tokenize-spec =

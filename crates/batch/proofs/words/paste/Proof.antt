@@ -1,11 +1,11 @@
--- Invariant: the first i words are pasted. The measure is what is left of src.
+-- Nothing where src does not fit. Else the invariant: the first i words are pasted. The measure is what is left of src.
 use Prim.Native.Nat.{_-_, _≤_}
-use mathlib.Core.Path.{_≡_, refl}
+use mathlib.Core.Path.{_≡_, refl, sym, _∙_}
 use native.Mathlib.Omega.{arith}
 use lib.ListN.{length, take, length-set}
 use lib.Seq.{take-all}
 use Rattle.batch.specs.Words.{pasted}
-use Rattle.batch.proofs.Pasting.{pasted-none, pasted-next}
+use Rattle.batch.proofs.Pasting.{pasted-room, pasted-no-room, pasted-none, pasted-next}
 use borrow.Author.Needs.{needs}
 use Rattle.batch.proofs.words.paste.Statement.{statement}
 use Rattle.batch.proofs.words.paste.Tie as tie
@@ -15,6 +15,15 @@ Inv-loop src at dst₀ i₀ dst i = (i ≤ length src) × ((length dst ≡ lengt
 
 abbrev μ-loop : tie.MeasureT-loop
 μ-loop src at dst₀ i₀ dst i = length src - i
+
+returns : tie.Need-returns Inv-loop μ-loop
+returns c = pasted-no-room _ _ _ (omega arith)
+
+sub-if2 : tie.Need-sub-if2 Inv-loop μ-loop
+sub-if2 c = search needs
+
+returns-2 : tie.Need-returns-2 Inv-loop μ-loop
+returns-2 c = pasted-no-room _ _ _ (omega arith)
 
 loop-holds : tie.Need-loop-holds Inv-loop μ-loop
 loop-holds c = (omega arith, (refl, pasted-none _ _))
@@ -43,14 +52,15 @@ loop-less c = omega arith
 loop-again : tie.Need-loop-again Inv-loop μ-loop
 loop-again c =
     let h = c .before .before .loop .inv in
-    let l = c .before .before .before .pre in
     (omega arith, (simp length-set (h .1 .0), rw (h .1 .1) (pasted-next _ _ _ _ (c .before .loop-test .taken) (omega arith))))
 
 same-length : tie.Need-same-length Inv-loop μ-loop
 same-length c = c .before .loop .inv .1 .0
 
-returns : tie.Need-returns Inv-loop μ-loop
-returns c = rw (take-all _ _ (c .loop-test .left)) at (c .before .loop .inv .1 .1)
+returns-3 : tie.Need-returns-3 Inv-loop μ-loop
+returns-3 c =
+    let e = rw (take-all _ _ (c .loop-test .left)) at (c .before .loop .inv .1 .1) in
+    e ∙ sym (pasted-room _ _ _ (omega arith))
 
 pub paste-spec : {M : Type 1} → statement M
 paste-spec =
@@ -58,6 +68,9 @@ paste-spec =
     (tie.spec
     Inv-loop
     μ-loop
+    returns
+    sub-if2
+    returns-2
     loop-holds
     mul-dst
     shared-slice-read-dst
@@ -68,4 +81,4 @@ paste-spec =
     loop-less
     loop-again
     same-length
-    returns)
+    returns-3)

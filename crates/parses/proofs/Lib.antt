@@ -1,0 +1,4 @@
+pub mod Tests
+pub mod Sorts
+pub mod ParserRulings
+pub mod ParserSteps

@@ -1,0 +1,2 @@
+pub mod ParserWords
+pub mod Parsing
