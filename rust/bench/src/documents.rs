@@ -3,15 +3,53 @@
 /// Writes the entry of a number.
 type Entry = fn(usize) -> String;
 
-pub const ALL: [(&str, Entry); 7] = [
-    ("short entries", short_entry),
-    ("lists", list),
-    ("long comments", long_comment),
-    ("deep nesting", deep_nesting),
-    ("multiline values", multiline_value),
-    ("many scripts", many_scripts),
-    ("label-like mix", label),
+/// Documents of one sort: one of all the bytes, or of these sizes in turn.
+pub struct Class {
+    pub name: &'static str,
+    entry: Entry,
+    sizes: &'static [usize],
+}
+
+pub const ALL: [Class; 7] = [
+    whole("short entries", short_entry),
+    whole("lists", list),
+    whole("long comments", long_comment),
+    whole("deep nesting", deep_nesting),
+    whole("multiline values", multiline_value),
+    whole("many scripts", many_scripts),
+    Class {
+        name: "layouts of 2 to 20 KB",
+        entry: label,
+        sizes: &[2_000, 4_000, 6_000, 8_000, 10_000, 14_000, 20_000],
+    },
 ];
+
+const fn whole(name: &'static str, entry: Entry) -> Class {
+    Class {
+        name,
+        entry,
+        sizes: &[],
+    }
+}
+
+impl Class {
+    /// Documents of `bytes` bytes together, or a little more.
+    pub fn documents(&self, bytes: usize) -> Vec<Vec<u8>> {
+        if self.sizes.is_empty() {
+            return vec![filled(self.entry, bytes)];
+        }
+        let mut documents = Vec::new();
+        let mut made = 0;
+        for &size in self.sizes.iter().cycle() {
+            documents.push(filled(self.entry, size));
+            made += size;
+            if made >= bytes {
+                break;
+            }
+        }
+        documents
+    }
+}
 
 const WORDS: [&str; 16] = [
     "x",
@@ -44,7 +82,7 @@ const SCRIPTS: [&str; 8] = [
 ];
 
 /// As many entries as `bytes` bytes have room for.
-pub fn filled(entry: Entry, bytes: usize) -> Vec<u8> {
+fn filled(entry: Entry, bytes: usize) -> Vec<u8> {
     let mut document = String::new();
     for number in 0.. {
         let next = entry(number);

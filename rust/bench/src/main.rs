@@ -12,8 +12,8 @@ use std::time::{Duration, Instant};
 
 const USAGE: &str = "\
 usage: bench [--bytes N] [--rounds N]
-prints tables in Markdown: documents of up to N bytes, at most 16777216 (default 10000000), and the
-medians of N rounds (default 9)";
+prints tables in Markdown: classes of documents of some N bytes, at most 16777216 (default 10000000),
+and the medians of N rounds (default 9)";
 
 struct Options {
     bytes: usize,
@@ -55,12 +55,14 @@ fn print_table(task: &Task, options: &Options) {
         task.name
     );
     println!("|---|---:|---:|---:|");
-    for (name, entry) in documents::ALL {
-        let document = documents::filled(entry, options.bytes);
-        let (original, port) = medians(task, &document, options.rounds);
-        let speed = |time: Duration| document.len() as f64 / time.as_secs_f64() / 1e6;
+    for class in documents::ALL {
+        let documents = class.documents(options.bytes);
+        let bytes: usize = documents.iter().map(Vec::len).sum();
+        let (original, port) = medians(task, &documents, options.rounds);
+        let speed = |time: Duration| bytes as f64 / time.as_secs_f64() / 1e6;
         println!(
-            "| {name} | {:.0} | {:.0} | {:.2} |",
+            "| {} | {:.0} | {:.0} | {:.2} |",
+            class.name,
             speed(original),
             speed(port),
             port.as_secs_f64() / original.as_secs_f64(),
@@ -69,21 +71,25 @@ fn print_table(task: &Task, options: &Options) {
 }
 
 /// The time that each side takes, after a round that is not timed.
-fn medians(task: &Task, document: &[u8], rounds: usize) -> (Duration, Duration) {
-    let answers = [(task.original)(document), (task.port)(document)];
-    assert_eq!(answers[0], answers[1], "the two sides read alike");
+fn medians(task: &Task, documents: &[Vec<u8>], rounds: usize) -> (Duration, Duration) {
+    for document in documents {
+        let answers = [(task.original)(document), (task.port)(document)];
+        assert_eq!(answers[0], answers[1], "the two sides read alike");
+    }
     let mut original = Vec::new();
     let mut port = Vec::new();
     for _ in 0..rounds {
-        original.push(time(task.original, document));
-        port.push(time(task.port, document));
+        original.push(time(task.original, documents));
+        port.push(time(task.port, documents));
     }
     (median(original), median(port))
 }
 
-fn time(read: fn(&[u8]) -> usize, document: &[u8]) -> Duration {
+fn time(read: fn(&[u8]) -> usize, documents: &[Vec<u8>]) -> Duration {
     let start = Instant::now();
-    black_box(read(black_box(document)));
+    for document in documents {
+        black_box(read(black_box(document)));
+    }
     start.elapsed()
 }
 
