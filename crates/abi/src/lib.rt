@@ -5,12 +5,12 @@ ghost use lib.Dec.{leb};
 ghost use lib.ListN.{length};
 ghost use Rattle.text.specs.Utf8.{utf8};
 ghost use Rattle.text.specs.Trimming.{dropped, trimmed};
-ghost use Rattle.batch.specs.Words.{freshIn};
-ghost use Rattle.batch.specs.Rows.{batchOf};
-ghost use Rattle.parses.specs.ParserWords.{freshParserIn};
-ghost use Rattle.parses.specs.Parsing.{parseBatchOf};
-ghost use Rattle.answers.specs.Texts.{textOf};
-ghost use Rattle.answers.specs.Found.{foundIn};
+ghost use Rattle.tokenizer_words.specs.Words.{freshIn};
+ghost use Rattle.tokenizer_words.specs.Rows.{batchOf};
+ghost use Rattle.parser_words.specs.ParserWords.{freshParserIn};
+ghost use Rattle.parser_words.specs.Parsing.{parseBatchOf};
+ghost use Rattle.answer_words.specs.Texts.{textOf};
+ghost use Rattle.answer_words.specs.Found.{foundIn};
 ghost use Rattle.abi.specs.Lent.{whichOf, partIn};
 
 // Whether s is well-formed UTF-8.
@@ -53,7 +53,7 @@ pub extern "C" fn conl_fresh(state: &mut [usize]) -> bool
     ensures { λ r. ⌜ r ≡ leb 137 (length (now (state .entry))) ⌝ }
     ensures { λ r. ⌜ now (state .exit) ≡ freshIn (now (state .entry)) ⌝ }
 {
-    batch::fresh(state)
+    tokenizer_words::fresh(state)
 }
 
 // Takes as many answers as rows has room for, a row of seven words each, up to End, and leaves the state after them: how
@@ -64,7 +64,7 @@ pub extern "C" fn conl_tokenize(doc: &[u8], state: &mut [usize], rows: &mut [usi
     ensures { λ r. ⌜ now (state .exit) ≡ batchOf (now (doc .entry)) (now (state .entry)) (now (rows .entry)) .words ⌝ }
     ensures { λ r. ⌜ now (rows .exit) ≡ batchOf (now (doc .entry)) (now (state .entry)) (now (rows .entry)) .rows ⌝ }
 {
-    batch::tokenize(doc, state, rows)
+    tokenizer_words::tokenize(doc, state, rows)
 }
 
 // Writes the parser's fresh state at the front of the words: true; or false, with state unchanged, where there are fewer
@@ -74,7 +74,7 @@ pub extern "C" fn conl_fresh_parser(state: &mut [usize]) -> bool
     ensures { λ r. ⌜ r ≡ leb 213 (length (now (state .entry))) ⌝ }
     ensures { λ r. ⌜ now (state .exit) ≡ freshParserIn (now (state .entry)) ⌝ }
 {
-    parses::fresh_parser(state)
+    parser_words::fresh_parser(state)
 }
 
 // The same as conl_tokenize with the parser's answers and state; it stops before a 15 too, and the next call returns it.
@@ -84,7 +84,7 @@ pub extern "C" fn conl_parse(doc: &[u8], state: &mut [usize], rows: &mut [usize]
     ensures { λ r. ⌜ now (state .exit) ≡ parseBatchOf (now (doc .entry)) (now (state .entry)) (now (rows .entry)) .words ⌝ }
     ensures { λ r. ⌜ now (rows .exit) ≡ parseBatchOf (now (doc .entry)) (now (state .entry)) (now (rows .entry)) .rows ⌝ }
 {
-    parses::parse(doc, state, rows)
+    parser_words::parse(doc, state, rows)
 }
 
 // Unescapes the token of a row, and writes the answer at the front of its words: 0, 0, 0, start and end of a plain part; 1, 0,
@@ -101,7 +101,7 @@ pub extern "C" fn conl_unescape(
     ensures { λ r. ⌜ now (out .exit) ≡ textOf (now (doc .entry)) (now (row .entry)) (now (out .entry)) (now (answer .entry)) .buffer ⌝ }
     ensures { λ r. ⌜ now (answer .exit) ≡ textOf (now (doc .entry)) (now (row .entry)) (now (out .entry)) (now (answer .entry)) .words ⌝ }
 {
-    answers::unescape(doc, row, out, answer)
+    answer_words::unescape(doc, row, out, answer)
 }
 
 // Looks up the first top-level key with the bytes of wanted, and writes the answer at the front of its words: 0, 0, 0, 0, 0 for
@@ -112,5 +112,5 @@ pub extern "C" fn conl_look_up(doc: &[u8], wanted: &[u8], answer: &mut [usize]) 
     ensures { λ r. ⌜ r ≡ leb 5 (length (now (answer .entry))) ⌝ }
     ensures { λ r. ⌜ now (answer .exit) ≡ foundIn (now (doc .entry)) (now (wanted .entry)) (now (answer .entry)) ⌝ }
 {
-    answers::look_up(doc, wanted, answer)
+    answer_words::look_up(doc, wanted, answer)
 }

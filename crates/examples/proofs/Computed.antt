@@ -1,8 +1,8 @@
 -- The rows marked P hold: each was computed from the rules in the crate of the rules.
 use Rattle.tokenizer.proofs.Examples as tokenizer
 use Rattle.parser.proofs.Examples as parser
-use Rattle.pieces.proofs.Examples as pieces
-use Rattle.rows.proofs.Examples as rows
+use Rattle.unescape_pieces.proofs.Examples as pieces
+use Rattle.listing_text.proofs.Examples as rows
 use Rattle.examples.specs.Rows.{Rows}
 
 pub computed : Rows

@@ -6,9 +6,9 @@ use Rattle.tokenizer.specs.Lists.{tokens}
 use Rattle.tokenizer.specs.declared.token.Token.the-variants as token
 use Rattle.tokenizer.specs.declared.state.Answer.the-variants as came
 use Rattle.parser.specs.Lists.{parse}
-use Rattle.ruling.specs.declared.ruling.Answer.the-variants as answer
-use Rattle.rows.specs.Listing.{listingOf}
-use Rattle.pieces.specs.Meaning.{bytes, code, refused, entryMeaning, blockMeaning}
+use Rattle.parser_rules.specs.declared.ruling.Answer.the-variants as answer
+use Rattle.listing_text.specs.Listing.{listingOf}
+use Rattle.unescape_pieces.specs.Meaning.{bytes, code, refused, entryMeaning, blockMeaning}
 use Prim.Native.Nat.{ℕ}
 
 abbrev pub part : ℕ → ℕ → Part

@@ -37,6 +37,6 @@ fn main() {
     let mut doc = doc_room();
     let mut out = out_room();
     let n = io::read_full(STDIN_FILENO, &mut doc);
-    let k = rows::listing(&doc[..n], &mut out);
+    let k = listing_text::listing(&doc[..n], &mut out);
     print(&out, k);
 }

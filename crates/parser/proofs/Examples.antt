@@ -5,10 +5,10 @@ use mathlib.Core.List.{List, [], _∷_}
 use Rattle.tokenizer.specs.declared.token.Token.the-variants as token
 use Rattle.tokenizer.proofs.Examples.{part}
 use Rattle.tokenizer.proofs.Examples.{rules as tokenRules}
-use Rattle.ruling.specs.Ruling.{onEntry, onOutdent, onIndent, settled, afterEntry, afterHint, onToken, onEnd, rulingOf}
+use Rattle.parser_rules.specs.Ruling.{onEntry, onOutdent, onIndent, settled, afterEntry, afterHint, onToken, onEnd, rulingOf}
 use Rattle.parser.specs.Lists.{feed, parsed, parse}
-use Rattle.ruling.specs.declared.ruling.Answer.{Answer}
-use Rattle.ruling.specs.declared.ruling.Answer.the-variants.{Token, Refused}
+use Rattle.parser_rules.specs.declared.ruling.Answer.{Answer}
+use Rattle.parser_rules.specs.declared.ruling.Answer.the-variants.{Token, Refused}
 
 -- what computing a parsing unfolds
 unfoldable pub rules : List ℕ → List Answer

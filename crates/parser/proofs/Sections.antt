@@ -13,15 +13,15 @@ use Rattle.tokenizer.specs.declared.token.Token.{Token}
 use Rattle.tokenizer.specs.declared.token.Token.the-variants as token
 use Rattle.tokenizer.specs.declared.state.Answer.{Answer as Came}
 use Rattle.tokenizer.specs.declared.state.Answer.the-variants as came
-use Rattle.ruling.specs.Ruling.{clashes, onEntry, onOutdent, onIndent, settled, afterEntry, afterHint, onToken, onEnd, rulingOf}
+use Rattle.parser_rules.specs.Ruling.{clashes, onEntry, onOutdent, onIndent, settled, afterEntry, afterHint, onToken, onEnd, rulingOf}
 use Rattle.parser.specs.Step.{noSort, innermostOf, fullOf, ChangeFits}
-use Rattle.ruling.specs.declared.ruling.Sort.{Sort}
-use Rattle.ruling.specs.declared.ruling.Awaited.{Awaited}
-use Rattle.ruling.specs.declared.ruling.Awaited.the-variants as awaited
-use Rattle.ruling.specs.declared.ruling.Innermost.{Innermost}
-use Rattle.ruling.specs.declared.ruling.Innermost.the-variants.{Missing, Of}
-use Rattle.ruling.specs.declared.ruling.Ruling.{Ruling}
-use Rattle.ruling.specs.declared.ruling.Ruling.the-variants.{Says, End, Unfit}
+use Rattle.parser_rules.specs.declared.ruling.Sort.{Sort}
+use Rattle.parser_rules.specs.declared.ruling.Awaited.{Awaited}
+use Rattle.parser_rules.specs.declared.ruling.Awaited.the-variants as awaited
+use Rattle.parser_rules.specs.declared.ruling.Innermost.{Innermost}
+use Rattle.parser_rules.specs.declared.ruling.Innermost.the-variants.{Missing, Of}
+use Rattle.parser_rules.specs.declared.ruling.Ruling.{Ruling}
+use Rattle.parser_rules.specs.declared.ruling.Ruling.the-variants.{Says, End, Unfit}
 use Rattle.parser.specs.declared.state.Section.{Section}
 
 pub inner-past : (l : List Section) (n : ℕ) → 65 < n → innermostOf l n ≡ Missing

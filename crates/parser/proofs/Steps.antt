@@ -9,9 +9,9 @@ use Rattle.tokenizer.specs.Token.{valuesOf as tokenizerValues}
 use Rattle.tokenizer.specs.Step.{fit}
 use Rattle.tokenizer.specs.declared.state.Step.{Step as TokenStep}
 use Rattle.tokenizer.proofs.Valued.{values-injective}
-use Rattle.ruling.specs.Ruling.{valuesOf}
+use Rattle.parser_rules.specs.Ruling.{valuesOf}
 use Rattle.parser.specs.Step.{refusal, stepKept, stepOf}
-use Rattle.ruling.specs.declared.ruling.Answer.the-variants as answer
+use Rattle.parser_rules.specs.declared.ruling.Answer.the-variants as answer
 use Rattle.parser.specs.declared.state.State.{State}
 use Rattle.parser.specs.declared.state.Step.{Step}
 

@@ -4,9 +4,9 @@ use Rattle.tokenizer.specs.Token.{valuesOf as cameValues}
 use Rattle.tokenizer.specs.declared.state.Answer.{Answer as Came}
 use Rattle.tokenizer.specs.declared.state.Answer.the-variants as came
 use Rattle.tokenizer.proofs.Valued.{values-injective as came-injective}
-use Rattle.ruling.specs.Ruling.{valuesOf}
-use Rattle.ruling.specs.declared.ruling.Answer.{Answer}
-use Rattle.ruling.specs.declared.ruling.Answer.the-variants as answer
+use Rattle.parser_rules.specs.Ruling.{valuesOf}
+use Rattle.parser_rules.specs.declared.ruling.Answer.{Answer}
+use Rattle.parser_rules.specs.declared.ruling.Answer.the-variants as answer
 use Rattle.parser.specs.declared.state.Step.{Step}
 
 -- the tokenizer's answer of the same shape, and back

@@ -11,23 +11,23 @@ use Rattle.tokenizer.specs.declared.token.Token.{Token}
 use Rattle.tokenizer.specs.declared.token.Token.the-variants as token
 use Rattle.tokenizer.specs.declared.state.Answer.{Answer as Came}
 use Rattle.tokenizer.specs.declared.state.Answer.the-variants as came
-use Rattle.ruling.specs.Ruling.{rulingOf}
+use Rattle.parser_rules.specs.Ruling.{rulingOf}
 use Rattle.parser.specs.Step.{stepOf, fresh}
-use Rattle.ruling.specs.declared.ruling.Answer.{Answer}
-use Rattle.ruling.specs.declared.ruling.Answer.the-variants as answer
-use Rattle.ruling.specs.declared.ruling.Sort.{Sort}
-use Rattle.ruling.specs.declared.ruling.Sort.the-variants.{Unset, Map, List as Listed}
-use Rattle.ruling.specs.declared.ruling.Awaited.{Awaited}
-use Rattle.ruling.specs.declared.ruling.Awaited.the-variants as awaited
-use Rattle.ruling.specs.declared.ruling.Kept.{Kept}
-use Rattle.ruling.specs.declared.ruling.Kept.the-variants as kept
-use Rattle.ruling.specs.declared.ruling.Innermost.{Innermost}
-use Rattle.ruling.specs.declared.ruling.Innermost.the-variants.{Missing, Of}
-use Rattle.ruling.specs.declared.ruling.Change.{Change}
-use Rattle.ruling.specs.declared.ruling.Change.the-variants.{Keep, Fix, Open, Close}
-use Rattle.ruling.specs.declared.ruling.Verdict.{Verdict}
-use Rattle.ruling.specs.declared.ruling.Ruling.{Ruling}
-use Rattle.ruling.specs.declared.ruling.Ruling.the-variants.{Says, End, Unfit}
+use Rattle.parser_rules.specs.declared.ruling.Answer.{Answer}
+use Rattle.parser_rules.specs.declared.ruling.Answer.the-variants as answer
+use Rattle.parser_rules.specs.declared.ruling.Sort.{Sort}
+use Rattle.parser_rules.specs.declared.ruling.Sort.the-variants.{Unset, Map, List as Listed}
+use Rattle.parser_rules.specs.declared.ruling.Awaited.{Awaited}
+use Rattle.parser_rules.specs.declared.ruling.Awaited.the-variants as awaited
+use Rattle.parser_rules.specs.declared.ruling.Kept.{Kept}
+use Rattle.parser_rules.specs.declared.ruling.Kept.the-variants as kept
+use Rattle.parser_rules.specs.declared.ruling.Innermost.{Innermost}
+use Rattle.parser_rules.specs.declared.ruling.Innermost.the-variants.{Missing, Of}
+use Rattle.parser_rules.specs.declared.ruling.Change.{Change}
+use Rattle.parser_rules.specs.declared.ruling.Change.the-variants.{Keep, Fix, Open, Close}
+use Rattle.parser_rules.specs.declared.ruling.Verdict.{Verdict}
+use Rattle.parser_rules.specs.declared.ruling.Ruling.{Ruling}
+use Rattle.parser_rules.specs.declared.ruling.Ruling.the-variants.{Says, End, Unfit}
 use Rattle.parser.specs.declared.state.State.{State}
 
 unfoldable pub isEnd : Answer → Bool

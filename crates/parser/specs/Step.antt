@@ -11,19 +11,19 @@ use Rattle.tokenizer.specs.declared.state.Answer.{Answer as Came}
 use Rattle.tokenizer.specs.declared.state.Answer.the-variants as came
 use Rattle.tokenizer.specs.declared.state.State.{State as Tokenizer}
 use Rattle.tokenizer.specs.declared.state.Step.{Step as TokenStep}
-use Rattle.ruling.specs.Ruling.{rulingOf}
-use Rattle.ruling.specs.declared.ruling.Answer.the-variants as answer
-use Rattle.ruling.specs.declared.ruling.Sort.the-variants.{Unset}
-use Rattle.ruling.specs.declared.ruling.Awaited.the-variants as awaited
-use Rattle.ruling.specs.declared.ruling.Kept.{Kept}
-use Rattle.ruling.specs.declared.ruling.Kept.the-variants as kept
-use Rattle.ruling.specs.declared.ruling.Innermost.{Innermost}
-use Rattle.ruling.specs.declared.ruling.Innermost.the-variants.{Missing, Of}
-use Rattle.ruling.specs.declared.ruling.Change.{Change}
-use Rattle.ruling.specs.declared.ruling.Change.the-variants.{Keep, Fix, Open, Close}
-use Rattle.ruling.specs.declared.ruling.Verdict.{Verdict}
-use Rattle.ruling.specs.declared.ruling.Ruling.{Ruling}
-use Rattle.ruling.specs.declared.ruling.Ruling.the-variants.{Says, End, Unfit}
+use Rattle.parser_rules.specs.Ruling.{rulingOf}
+use Rattle.parser_rules.specs.declared.ruling.Answer.the-variants as answer
+use Rattle.parser_rules.specs.declared.ruling.Sort.the-variants.{Unset}
+use Rattle.parser_rules.specs.declared.ruling.Awaited.the-variants as awaited
+use Rattle.parser_rules.specs.declared.ruling.Kept.{Kept}
+use Rattle.parser_rules.specs.declared.ruling.Kept.the-variants as kept
+use Rattle.parser_rules.specs.declared.ruling.Innermost.{Innermost}
+use Rattle.parser_rules.specs.declared.ruling.Innermost.the-variants.{Missing, Of}
+use Rattle.parser_rules.specs.declared.ruling.Change.{Change}
+use Rattle.parser_rules.specs.declared.ruling.Change.the-variants.{Keep, Fix, Open, Close}
+use Rattle.parser_rules.specs.declared.ruling.Verdict.{Verdict}
+use Rattle.parser_rules.specs.declared.ruling.Ruling.{Ruling}
+use Rattle.parser_rules.specs.declared.ruling.Ruling.the-variants.{Says, End, Unfit}
 use Rattle.parser.specs.declared.state.Section.{Section}
 use Rattle.parser.specs.declared.state.State.{State}
 use Rattle.parser.specs.declared.state.Step.{Step}

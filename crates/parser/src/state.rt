@@ -1,17 +1,17 @@
 // The parser's state by value, and the step over it.
-use ruling::Answer;
-use ruling::Awaited;
-use ruling::Change;
-use ruling::Innermost;
-use ruling::Kept;
-use ruling::Ruling;
-use ruling::Sort;
-use ruling::Verdict;
-use ruling::rule;
+use parser_rules::Answer;
+use parser_rules::Awaited;
+use parser_rules::Change;
+use parser_rules::Innermost;
+use parser_rules::Kept;
+use parser_rules::Ruling;
+use parser_rules::Sort;
+use parser_rules::Verdict;
+use parser_rules::rule;
 ghost use mathlib.Core.Path.{_≡_};
 ghost use Prim.Native.Nat.{_-_, _≤_, _<_};
 ghost use lib.ListN.{set};
-ghost use Rattle.ruling.specs.Ruling.{valuesOf};
+ghost use Rattle.parser_rules.specs.Ruling.{valuesOf};
 ghost use Rattle.parser.specs.Step.{
   noSort,
   ChangeFits,

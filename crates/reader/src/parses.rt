@@ -1,8 +1,8 @@
 // The parser's step over a state that the caller lends.
 use parser::State;
-use ruling::Answer;
+use parser_rules::Answer;
 ghost use mathlib.Core.Path.{_≡_};
-ghost use Rattle.ruling.specs.Ruling.{valuesOf};
+ghost use Rattle.parser_rules.specs.Ruling.{valuesOf};
 ghost use Rattle.parser.specs.Step.{stepOf};
 
 // The answer of one step; the lent state is advanced by it. 12, 15 and End leave it the very same.

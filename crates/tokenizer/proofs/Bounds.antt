@@ -16,18 +16,18 @@ use Rattle.text.proofs.Cases.{on-cond}
 use Rattle.text.proofs.Front.{break-le, break-pos}
 use Rattle.text.proofs.Scan.{count-le}
 use Rattle.text.proofs.Trimmed.{trimmed-le}
-use Rattle.readers.specs.Scans.{plainEnd, textEnd, checkedOf, extent, linesOf}
-use Rattle.plan.specs.Plan.{shiftedBy, said, planNewline, planComment, planItem, planKey, planPlain, planMultiline, planOutdent, planAt}
+use Rattle.tokenizer_scans.specs.Scans.{plainEnd, textEnd, checkedOf, extent, linesOf}
+use Rattle.tokenizer_rules.specs.Plan.{shiftedBy, said, planNewline, planComment, planItem, planKey, planPlain, planMultiline, planOutdent, planAt}
 use Rattle.tokenizer.specs.Step.{reach, depthAfter}
-use Rattle.plan.specs.declared.plan.Marks.{Marks}
-use Rattle.plan.specs.declared.plan.Says.{Says}
-use Rattle.plan.specs.declared.plan.Says.the-variants.{Comment, MapKey, Value, MultilineHint, MultilineValue}
-use Rattle.plan.specs.declared.plan.Plan.{Plan}
+use Rattle.tokenizer_rules.specs.declared.plan.Marks.{Marks}
+use Rattle.tokenizer_rules.specs.declared.plan.Says.{Says}
+use Rattle.tokenizer_rules.specs.declared.plan.Says.the-variants.{Comment, MapKey, Value, MultilineHint, MultilineValue}
+use Rattle.tokenizer_rules.specs.declared.plan.Plan.{Plan}
 use Rattle.tokenizer.specs.declared.state.State.{State}
 use Rattle.tokenizer.proofs.Fitness.{Fitness}
-use Rattle.readers.proofs.Quotes.{plain-le, text-le, eq-le, hint-le}
-use Rattle.readers.proofs.Pieces.{extent-le, lineCount-le}
-use Rattle.plan.proofs.PlanCases.{Cases, plan-cases}
+use Rattle.tokenizer_scans.proofs.Quotes.{plain-le, text-le, eq-le, hint-le}
+use Rattle.tokenizer_scans.proofs.Pieces.{extent-le, lineCount-le}
+use Rattle.tokenizer_rules.proofs.PlanCases.{Cases, plan-cases}
 
 -- n bytes are left, and depth sections open
 pub record Bounded (n depth : ℕ) (p : Plan) : Type 0 where

@@ -6,7 +6,7 @@ use Rattle.text.specs.Bytes.{isBlank, isBreak, breakSize, countWhile, startsWit
 use Rattle.text.specs.Trimming.{dropped, keptEnd, trimmed}
 use Rattle.text.specs.Utf8.{within, leadOf, owes, utf8}
 use Rattle.text.specs.declared.bytes.Part.{Part}
-use Rattle.readers.specs.Scans.{
+use Rattle.tokenizer_scans.specs.Scans.{
   blanks,
   relationOf,
   stops,
@@ -26,7 +26,7 @@ use Rattle.readers.specs.Scans.{
   lineCount,
   linesOf,
 }
-use Rattle.plan.specs.Plan.{
+use Rattle.tokenizer_rules.specs.Plan.{
   planNewline,
   planEnd,
   planComment,

@@ -13,7 +13,7 @@ use Rattle.text.specs.declared.bytes.Part.{Part}
 use Rattle.text.specs.declared.trimming.Dropped.the-variants.{Blanks}
 use Rattle.text.proofs.Cases.{and-right}
 use Rattle.text.proofs.Scan.{count-le}
-use Rattle.readers.specs.Scans.{blanks}
+use Rattle.tokenizer_scans.specs.Scans.{blanks}
 use Rattle.tokenizer.specs.Step.{
   noPart,
   indentOf,
@@ -30,9 +30,9 @@ use Rattle.tokenizer.specs.Step.{
   fit,
   stepOf,
 }
-use Rattle.plan.specs.declared.plan.Change.{Change}
-use Rattle.plan.specs.declared.plan.Change.the-variants.{Keep, Open, Close, Hold}
-use Rattle.plan.specs.declared.plan.Plan.{Plan}
+use Rattle.tokenizer_rules.specs.declared.plan.Change.{Change}
+use Rattle.tokenizer_rules.specs.declared.plan.Change.the-variants.{Keep, Open, Close, Hold}
+use Rattle.tokenizer_rules.specs.declared.plan.Plan.{Plan}
 use Rattle.tokenizer.specs.declared.state.Held.{Held}
 use Rattle.tokenizer.specs.declared.state.Held.the-variants.{Nothing, At}
 use Rattle.tokenizer.specs.declared.state.State.{State}

@@ -9,12 +9,12 @@ use Rattle.text.specs.declared.bytes.Part.{Part}
 use Rattle.text.specs.declared.trimming.Dropped.{Dropped}
 use Rattle.text.proofs.Cases.{on-cond}
 use Rattle.tokenizer.specs.Token.{tokenValues, valuesOf}
-use Rattle.readers.specs.Scans.{checkedOf}
-use Rattle.plan.specs.Plan.{said, planNewline, planComment, planItem, planKey, planPlain, planMultiline, planOutdent, planAt}
+use Rattle.tokenizer_scans.specs.Scans.{checkedOf}
+use Rattle.tokenizer_rules.specs.Plan.{said, planNewline, planComment, planItem, planKey, planPlain, planMultiline, planOutdent, planAt}
 use Rattle.tokenizer.specs.Step.{answerOf, planWith, stepWith, stepRule, fit, stepOf}
-use Rattle.plan.specs.declared.plan.Marks.{Marks}
-use Rattle.plan.specs.declared.plan.Says.{Says}
-use Rattle.plan.specs.declared.plan.Says.the-variants.{
+use Rattle.tokenizer_rules.specs.declared.plan.Marks.{Marks}
+use Rattle.tokenizer_rules.specs.declared.plan.Says.{Says}
+use Rattle.tokenizer_rules.specs.declared.plan.Says.the-variants.{
   End,
   Newline,
   Comment,
@@ -27,11 +27,11 @@ use Rattle.plan.specs.declared.plan.Says.the-variants.{
   MultilineValue,
   Refused,
 }
-use Rattle.plan.specs.declared.plan.Plan.{Plan}
+use Rattle.tokenizer_rules.specs.declared.plan.Plan.{Plan}
 use Rattle.tokenizer.specs.declared.state.State.{State}
 use Rattle.tokenizer.specs.declared.state.Step.{Step}
 use Rattle.tokenizer.specs.declared.state.Answer.the-variants as answer
-use Rattle.plan.proofs.PlanCases.{plan-cases}
+use Rattle.tokenizer_rules.proofs.PlanCases.{plan-cases}
 
 -- the number of a refusal, and 0 of what is none
 abbrev refuses : Says → ℕ

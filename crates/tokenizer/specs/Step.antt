@@ -5,10 +5,10 @@ use mathlib.Core.Bool.{Bool, true, false, cond, _&&_}
 use lib.ListN.{length, take, drop, getD, set, replicate}
 use lib.Dec.{leb, ltb}
 use Rattle.text.specs.declared.bytes.Part.{Part}
-use Rattle.readers.specs.Scans.{blanks}
-use Rattle.plan.specs.Plan.{shiftedBy, planAt}
-use Rattle.plan.specs.declared.plan.Says.{Says}
-use Rattle.plan.specs.declared.plan.Says.the-variants.{
+use Rattle.tokenizer_scans.specs.Scans.{blanks}
+use Rattle.tokenizer_rules.specs.Plan.{shiftedBy, planAt}
+use Rattle.tokenizer_rules.specs.declared.plan.Says.{Says}
+use Rattle.tokenizer_rules.specs.declared.plan.Says.the-variants.{
   End,
   Newline,
   Comment,
@@ -21,9 +21,9 @@ use Rattle.plan.specs.declared.plan.Says.the-variants.{
   MultilineValue,
   Refused,
 }
-use Rattle.plan.specs.declared.plan.Change.{Change}
-use Rattle.plan.specs.declared.plan.Change.the-variants.{Keep, Open, Close, Hold}
-use Rattle.plan.specs.declared.plan.Plan.{Plan}
+use Rattle.tokenizer_rules.specs.declared.plan.Change.{Change}
+use Rattle.tokenizer_rules.specs.declared.plan.Change.the-variants.{Keep, Open, Close, Hold}
+use Rattle.tokenizer_rules.specs.declared.plan.Plan.{Plan}
 use Rattle.tokenizer.specs.declared.token.Token.the-variants as token
 use Rattle.tokenizer.specs.declared.state.Answer.{Answer}
 use Rattle.tokenizer.specs.declared.state.Answer.the-variants as answer

@@ -1,10 +1,10 @@
 // The state by value, and the step over it.
 use crate::token::Token;
-use plan::Change;
-use plan::Marks;
-use plan::Plan;
-use plan::Says;
-use plan::plan_at;
+use tokenizer_rules::Change;
+use tokenizer_rules::Marks;
+use tokenizer_rules::Plan;
+use tokenizer_rules::Says;
+use tokenizer_rules::plan_at;
 use text::Dropped;
 use text::Part;
 ghost use mathlib.Core.Path.{_≡_};
@@ -12,7 +12,7 @@ ghost use mathlib.Core.Bool.{true, cond};
 ghost use Prim.Native.Nat.{_+_, _-_, _<_, _≤_, _^_};
 ghost use lib.Dec.{eqb};
 ghost use lib.ListN.{length, drop, set};
-ghost use Rattle.plan.specs.Plan.{shiftedBy, planAt};
+ghost use Rattle.tokenizer_rules.specs.Plan.{shiftedBy, planAt};
 ghost use Rattle.tokenizer.specs.Token.{valuesOf};
 ghost use Rattle.tokenizer.specs.Step.{
   indentOf,

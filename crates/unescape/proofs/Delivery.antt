@@ -12,14 +12,14 @@ use Rattle.text.specs.Utf8.{charLen, utf8}
 use Rattle.text.specs.declared.bytes.Part.{Part}
 use Rattle.text.proofs.Cases.{on-cond, by-bool, and-left, and-right}
 use Rattle.text.proofs.Chars.{charLen-le}
-use Rattle.pieces.specs.Codes.{codeOf, simpleOf}
-use Rattle.pieces.specs.Meaning.{Meaning, part, bytes, code, refused, written, Mode, plain, escape, brace, closed, quoted, meaning}
-use Rattle.pieces.specs.Pieces.{meaningFrom, startOf}
-use Rattle.pieces.specs.declared.pieces.Spot.{Spot}
-use Rattle.pieces.specs.declared.pieces.Spot.the-variants.{Quotes, FirstLine, LaterLine, Break}
-use Rattle.pieces.specs.declared.words.Reading.{Reading}
-use Rattle.pieces.specs.declared.words.Start.the-variants.{Plain as Whole, Pieces}
-use Rattle.pieces.proofs.Starts.{part-means, pieces-mean, pieces-lie}
+use Rattle.unescape_pieces.specs.Codes.{codeOf, simpleOf}
+use Rattle.unescape_pieces.specs.Meaning.{Meaning, part, bytes, code, refused, written, Mode, plain, escape, brace, closed, quoted, meaning}
+use Rattle.unescape_pieces.specs.Pieces.{meaningFrom, startOf}
+use Rattle.unescape_pieces.specs.declared.pieces.Spot.{Spot}
+use Rattle.unescape_pieces.specs.declared.pieces.Spot.the-variants.{Quotes, FirstLine, LaterLine, Break}
+use Rattle.unescape_pieces.specs.declared.words.Reading.{Reading}
+use Rattle.unescape_pieces.specs.declared.words.Start.the-variants.{Plain as Whole, Pieces}
+use Rattle.unescape_pieces.proofs.Starts.{part-means, pieces-mean, pieces-lie}
 use Rattle.unescape.specs.Walk.{measuredOf, Fits, filled}
 use Rattle.unescape.specs.Unescape.{Unescaped, keptBuffer, refusal, delivered}
 use Rattle.unescape.specs.declared.Answer.{Answer}

@@ -8,7 +8,7 @@ use native.Mathlib.Omega.{arith}
 use lib.ListN.{length, take, drop, getD, set, length-take, length-drop, length-append, drop-of-length-le, take-append-drop}
 use lib.Seq.{take-suc, drop-cons, drop-drop, set-at, take-at, drop-at, length-take-le, take-length}
 use Rattle.text.proofs.Front.{from}
-use Rattle.pieces.specs.Meaning.{Meaning, part, bytes, code, refused, written}
+use Rattle.unescape_pieces.specs.Meaning.{Meaning, part, bytes, code, refused, written}
 use Rattle.unescape.specs.Walk.{Fits, filled}
 
 -- one byte more of s

@@ -14,14 +14,14 @@ use Rattle.text.proofs.Cases.{by-bool, and-left, and-right}
 use Rattle.tokenizer.specs.Token.{lineOf}
 use Rattle.tokenizer.specs.Step.{bytesOf, fitPart}
 use Rattle.tokenizer.specs.declared.token.Token.{Token}
-use Rattle.pieces.specs.Meaning.{Meaning, part, bytes, code, refused, meaning}
-use Rattle.pieces.specs.Pieces.{startOf, meaningFrom}
-use Rattle.pieces.specs.Words.{wordsOf, sound}
-use Rattle.pieces.specs.declared.words.Reading.{Reading}
-use Rattle.pieces.specs.declared.words.Worded.{Worded}
-use Rattle.pieces.specs.declared.words.Start.{Start}
-use Rattle.pieces.specs.declared.words.Start.the-variants.{Plain, Pieces}
-use Rattle.pieces.proofs.Starts.{part-means, part-lies, pieces-mean, pieces-lie}
+use Rattle.unescape_pieces.specs.Meaning.{Meaning, part, bytes, code, refused, meaning}
+use Rattle.unescape_pieces.specs.Pieces.{startOf, meaningFrom}
+use Rattle.unescape_pieces.specs.Words.{wordsOf, sound}
+use Rattle.unescape_pieces.specs.declared.words.Reading.{Reading}
+use Rattle.unescape_pieces.specs.declared.words.Worded.{Worded}
+use Rattle.unescape_pieces.specs.declared.words.Start.{Start}
+use Rattle.unescape_pieces.specs.declared.words.Start.the-variants.{Plain, Pieces}
+use Rattle.unescape_pieces.proofs.Starts.{part-means, part-lies, pieces-mean, pieces-lie}
 use Rattle.unescape.specs.Walk.{plainBy}
 use Rattle.unescape.specs.Unescape.{keptBuffer, refusal, delivered, unescapeOf, shownBy, plainOf}
 use Rattle.unescape.specs.declared.Answer.{Answer}

@@ -11,13 +11,13 @@ use lib.ListN.{length, take, drop, length-append, length-drop}
 use lib.Seq.{drop-drop, take-nil, take-take, take-append-seam, length-take-le}
 use Rattle.text.specs.Scalar.{isScalar, encoding, encodingOf, encodedOf}
 use Rattle.text.proofs.Cases.{by-bool}
-use Rattle.pieces.specs.Meaning.{Meaning, part, bytes, code, refused, written}
-use Rattle.pieces.specs.Pieces.{nextOf, meaningFrom}
-use Rattle.pieces.specs.declared.pieces.Spot.{Spot}
-use Rattle.pieces.specs.declared.pieces.Piece.{Piece}
-use Rattle.pieces.specs.declared.pieces.Piece.the-variants.{Run, Scalar, End, Code, Refused}
-use Rattle.pieces.specs.declared.pieces.Next.{Next}
-use Rattle.pieces.proofs.Walking.{continued, law, weight, Steps, Stepped, steps}
+use Rattle.unescape_pieces.specs.Meaning.{Meaning, part, bytes, code, refused, written}
+use Rattle.unescape_pieces.specs.Pieces.{nextOf, meaningFrom}
+use Rattle.unescape_pieces.specs.declared.pieces.Spot.{Spot}
+use Rattle.unescape_pieces.specs.declared.pieces.Piece.{Piece}
+use Rattle.unescape_pieces.specs.declared.pieces.Piece.the-variants.{Run, Scalar, End, Code, Refused}
+use Rattle.unescape_pieces.specs.declared.pieces.Next.{Next}
+use Rattle.unescape_pieces.proofs.Walking.{continued, law, weight, Steps, Stepped, steps}
 use Rattle.unescape.specs.Walk.{measuredOf}
 use Rattle.unescape.specs.declared.walk.Measured.{Measured}
 use Rattle.unescape.specs.declared.walk.Measured.the-variants.{Length}

@@ -21,8 +21,8 @@ use Rattle.text.specs.Utf8.{owes, utf8}
 use Rattle.text.proofs.Cases.{on-cond, and-left, and-right}
 use Rattle.text.proofs.Joins.{utf8-append, utf8-drop, utf8-cut, utf8-snoc}
 use Rattle.text.proofs.Unicode.{utf8-ascii, utf8-encoding}
-use Rattle.pieces.specs.Codes.{codeOf, simpleOf}
-use Rattle.pieces.specs.Meaning.{
+use Rattle.unescape_pieces.specs.Codes.{codeOf, simpleOf}
+use Rattle.unescape_pieces.specs.Meaning.{
   Meaning,
   part,
   bytes,
@@ -48,8 +48,8 @@ use Rattle.pieces.specs.Meaning.{
   blockMeaning,
   meaning,
 }
-use Rattle.pieces.specs.declared.words.Reading.the-variants.{AsIs, Entry, Block}
-use Rattle.pieces.proofs.Escapes.{simple}
+use Rattle.unescape_pieces.specs.declared.words.Reading.the-variants.{AsIs, Entry, Block}
+use Rattle.unescape_pieces.proofs.Escapes.{simple}
 use Rattle.unescape.specs.Claims.{ValidIn, Valid}
 
 utf8-nil : utf8 [] ≡ true

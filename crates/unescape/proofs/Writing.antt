@@ -6,11 +6,11 @@ use native.Mathlib.Omega.{arith}
 use lib.ListN.{length, take, drop, length-drop}
 use Rattle.text.specs.Scalar.{encodingOf}
 use Rattle.text.proofs.Front.{from}
-use Rattle.pieces.specs.Meaning.{Meaning, bytes, code, refused}
-use Rattle.pieces.specs.Pieces.{nextOf, meaningFrom}
-use Rattle.pieces.specs.declared.pieces.Spot.{Spot}
-use Rattle.pieces.specs.declared.pieces.Piece.the-variants.{Run, Scalar, End, Code, Refused}
-use Rattle.pieces.specs.declared.pieces.Next.{Next}
+use Rattle.unescape_pieces.specs.Meaning.{Meaning, bytes, code, refused}
+use Rattle.unescape_pieces.specs.Pieces.{nextOf, meaningFrom}
+use Rattle.unescape_pieces.specs.declared.pieces.Spot.{Spot}
+use Rattle.unescape_pieces.specs.declared.pieces.Piece.the-variants.{Run, Scalar, End, Code, Refused}
+use Rattle.unescape_pieces.specs.declared.pieces.Next.{Next}
 use Rattle.unescape.proofs.Filling.{Wrote, has-room, write-next, lent, all-written, no-code, no-refusal}
 use Rattle.unescape.proofs.Turns.{meant, run-moves, run-bytes, run-length}
 

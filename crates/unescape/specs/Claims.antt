@@ -5,8 +5,8 @@ use mathlib.Core.List.{List}
 use mathlib.Core.Bool.{true}
 use lib.ListN.{take, drop}
 use Rattle.text.specs.Utf8.{utf8}
-use Rattle.pieces.specs.Meaning.{Meaning, part, bytes, code, refused, meaning}
-use Rattle.pieces.specs.declared.words.Reading.{Reading}
+use Rattle.unescape_pieces.specs.Meaning.{Meaning, part, bytes, code, refused, meaning}
+use Rattle.unescape_pieces.specs.declared.words.Reading.{Reading}
 
 -- the part of the text s, or the bytes, are UTF-8
 abbrev pub ValidIn : List ℕ → Meaning → Type 0

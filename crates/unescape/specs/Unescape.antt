@@ -7,9 +7,9 @@ use lib.ListN.{length, drop}
 use Rattle.tokenizer.specs.Token.{lineOf}
 use Rattle.tokenizer.specs.Step.{bytesOf, noPart}
 use Rattle.tokenizer.specs.declared.token.Token.{Token}
-use Rattle.pieces.specs.Meaning.{Meaning, part, bytes, code, refused, meaning}
-use Rattle.pieces.specs.Words.{wordsOf, sound}
-use Rattle.pieces.specs.declared.words.Worded.{Worded}
+use Rattle.unescape_pieces.specs.Meaning.{Meaning, part, bytes, code, refused, meaning}
+use Rattle.unescape_pieces.specs.Words.{wordsOf, sound}
+use Rattle.unescape_pieces.specs.declared.words.Worded.{Worded}
 use Rattle.unescape.specs.declared.Answer.{Answer}
 use Rattle.unescape.specs.declared.Answer.the-variants.{Plain, Written, Refused}
 

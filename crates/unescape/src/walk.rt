@@ -1,13 +1,13 @@
 // The two walks over the pieces: one measures, one writes.
-use pieces::Piece;
-use pieces::Spot;
-use pieces::next_piece;
+use unescape_pieces::Piece;
+use unescape_pieces::Spot;
+use unescape_pieces::next_piece;
 ghost use mathlib.Core.Path.{_≡_};
 ghost use mathlib.Core.List.{_++_};
 ghost use Prim.Native.Nat.{_≤_};
 ghost use lib.ListN.{length, drop};
 ghost use Rattle.text.specs.Scalar.{encodingOf};
-ghost use Rattle.pieces.specs.Pieces.{meaningFrom};
+ghost use Rattle.unescape_pieces.specs.Pieces.{meaningFrom};
 ghost use Rattle.unescape.specs.Walk.{measuredOf, Fits, filled};
 
 // The length of the text that a meaning writes, or its refusal: the part of an invalid code, or a number.

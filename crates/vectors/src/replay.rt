@@ -86,16 +86,16 @@ fn rows_agree(line: &[u8], after: usize, rows: &[usize], n: usize) -> bool {
 fn tokens_agree(line: &[u8], s: &[u8], after: usize) -> bool {
     let mut words = [0usize; 137];
     let mut rows = [0usize; 3591];
-    batch::fresh(&mut words);
-    let n = batch::tokenize(s, &mut words, &mut rows);
+    tokenizer_words::fresh(&mut words);
+    let n = tokenizer_words::tokenize(s, &mut words, &mut rows);
     rows_agree(line, after, &rows, n)
 }
 
 fn parsing_agrees(line: &[u8], s: &[u8], after: usize) -> bool {
     let mut words = [0usize; 213];
     let mut rows = [0usize; 3591];
-    parses::fresh_parser(&mut words);
-    let n = parses::parse(s, &mut words, &mut rows);
+    parser_words::fresh_parser(&mut words);
+    let n = parser_words::parse(s, &mut words, &mut rows);
     rows_agree(line, after, &rows, n)
 }
 
@@ -122,7 +122,7 @@ fn bytes_agree(line: &[u8], at: usize, bytes: &[u8], n: usize) -> bool {
 fn unescaping_agrees(line: &[u8], s: &[u8], at: usize, row: &[usize]) -> bool {
     let mut out = [0u8; 256];
     let mut answer = [0usize; 5];
-    if !answers::unescape(s, row, &mut out, &mut answer) {
+    if !answer_words::unescape(s, row, &mut out, &mut answer) {
         return false;
     }
     let end = words_after(line, at, &answer, 0, 5);

@@ -41,7 +41,7 @@ use denote.Triple.Table.{entered, cited}
 use denote.Triple.Walked.{Stays, stay-ref, stay-none-slice, walkOf, goes-ref, goes-none-slice, Walks, ends-at, walked, walk-meets}
 use denote.Exit.{yes}
 use denote.Triple.Clauses.{ensured, lasts}
-use Rattle.ruling.specs.Ruling.{valuesOf}
+use Rattle.parser_rules.specs.Ruling.{valuesOf}
 use Rattle.parser.specs.Step.{stepOf}
 use Rattle.parser.specs.declared.state.State.{State}
 use Rattle.parser.specs.declared.state.Step.{Step}
@@ -49,8 +49,8 @@ use Rattle.parser.proofs.state.State as T
 use Rattle.parser.proofs.state.State.Laws as T′
 use Rattle.parser.proofs.state.Step as P
 use Rattle.parser.proofs.state.Step.Laws as P′
-use Rattle.ruling.proofs.ruling.Answer as N
-use Rattle.ruling.proofs.ruling.Answer.Laws as N′
+use Rattle.parser_rules.proofs.ruling.Answer as N
+use Rattle.parser_rules.proofs.ruling.Answer.Laws as N′
 use Rattle.parser.proofs.state.State.step as step
 use Rattle.parser.proofs.state.State.step.Symbol as step-def
 use Rattle.parser.proofs.state.State.step.Symbol.{name as #parser·step}

@@ -4,7 +4,7 @@ use borrow.Author.Needs.{needs}
 use Rattle.text.specs.Trimming.{dropped}
 use Rattle.text.specs.declared.trimming.Dropped.the-variants.{Blanks}
 use Rattle.text.proofs.Scan.{count-le}
-use Rattle.readers.specs.Scans.{blanks}
+use Rattle.tokenizer_scans.specs.Scans.{blanks}
 use Rattle.tokenizer.proofs.state.indent_at.Statement.{statement}
 use Rattle.tokenizer.proofs.state.indent_at.Tie as tie
 

@@ -8,9 +8,9 @@ use denote.Enum.Declared.{tagOf}
 use borrow.Author.Needs.{needs}
 use Rattle.text.specs.declared.bytes.Part.{Part}
 use Rattle.tokenizer.specs.Step.{depthAfter, indentsAfter}
-use Rattle.plan.specs.declared.plan.Change.{Change}
-use Rattle.plan.specs.declared.plan.Change.the-variants.{Keep, Open, Close, Hold}
-use Rattle.plan.proofs.plan.Change.{the-type}
+use Rattle.tokenizer_rules.specs.declared.plan.Change.{Change}
+use Rattle.tokenizer_rules.specs.declared.plan.Change.the-variants.{Keep, Open, Close, Hold}
+use Rattle.tokenizer_rules.proofs.plan.Change.{the-type}
 use Rattle.tokenizer.proofs.state.indents_after.Statement.{statement}
 use Rattle.tokenizer.proofs.state.indents_after.Tie as tie
 

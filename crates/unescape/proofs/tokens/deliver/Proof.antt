@@ -1,7 +1,7 @@
 -- `deliver` measures, and writes what fits (pieces/proofs/Starts, proofs/Delivery).
 use mathlib.Core.Path.{sym, _∙_}
 use native.Mathlib.Omega.{arith}
-use Rattle.pieces.proofs.Starts.{part-lies, pieces-lie}
+use Rattle.unescape_pieces.proofs.Starts.{part-lies, pieces-lie}
 use Rattle.unescape.proofs.Delivery.{
   plain-answered,
   short-answered,

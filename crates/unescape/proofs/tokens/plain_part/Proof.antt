@@ -1,6 +1,6 @@
 -- `plain_part` is its definition; the plain part lies within the text (pieces/proofs/Starts).
 use mathlib.Core.Path.{sym, ap, _∙_}
-use Rattle.pieces.proofs.Starts.{part-lies}
+use Rattle.unescape_pieces.proofs.Starts.{part-lies}
 use Rattle.unescape.specs.Walk.{plainBy}
 use borrow.Author.Needs.{needs}
 use Rattle.unescape.proofs.tokens.plain_part.Statement.{statement}

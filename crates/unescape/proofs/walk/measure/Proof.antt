@@ -6,8 +6,8 @@ use native.Mathlib.Omega.{arith}
 use lib.ListN.{length, drop}
 use Rattle.text.specs.declared.scalar.Encoded.{Encoded}
 use Rattle.text.proofs.Front.{from}
-use Rattle.pieces.specs.Pieces.{meaningFrom}
-use Rattle.pieces.proofs.Walking.{weight}
+use Rattle.unescape_pieces.specs.Pieces.{meaningFrom}
+use Rattle.unescape_pieces.proofs.Walking.{weight}
 use Rattle.unescape.specs.Walk.{measuredOf}
 use Rattle.unescape.proofs.Turns.{
   Counted,

@@ -5,8 +5,8 @@ use Prim.Native.Nat.{_+_, _-_, _*_, _≤_}
 use native.Mathlib.Omega.{arith}
 use lib.ListN.{length, drop}
 use Rattle.text.proofs.Front.{from}
-use Rattle.pieces.specs.Pieces.{meaningFrom}
-use Rattle.pieces.proofs.Walking.{weight}
+use Rattle.unescape_pieces.specs.Pieces.{meaningFrom}
+use Rattle.unescape_pieces.proofs.Walking.{weight}
 use Rattle.unescape.specs.Walk.{filled}
 use Rattle.unescape.proofs.Filling.{Wrote, none-written}
 use Rattle.unescape.proofs.Turns.{run-skips, run-moves, scalar-moves}

@@ -8,7 +8,7 @@ use borrow.Author.Tests.{not-true, not-false}
 use lib.Dec.{eqb}
 use lib.ListN.{length, getD, drop, length-drop}
 use Rattle.text.proofs.Front.{from}
-use Rattle.plan.specs.Plan.{planAt}
+use Rattle.tokenizer_rules.specs.Plan.{planAt}
 use Rattle.tokenizer.specs.Step.{noPart, bytesOf, innerOf, planWith, stepWith, fitPart, fit, stepRule}
 use Rattle.tokenizer.specs.declared.state.Step.{Step}
 use Rattle.tokenizer.proofs.Bounds.{Room, room}

@@ -1,0 +1,46 @@
+// Unescaping over lent words: the token in a row, the answer in five words.
+use tokenizer_words::paste;
+use parser_words::token_in;
+use unescape::Answer;
+ghost use mathlib.Core.Path.{_≡_};
+ghost use Rattle.answer_words.specs.Texts.{answerWords, isToken, textOf};
+
+fn answer_words(a: Answer) -> [usize; 5]
+    ensures { λ r. ⌜ r ≡ answerWords a ⌝ }
+{
+    match a {
+        Answer::Plain(p) => [0, 0, 0, p.start, p.end],
+        Answer::Written(n) => [1, 0, 0, 0, n],
+        Answer::Refused(n, line, p) => [2, n, line, p.start, p.end],
+    }
+}
+
+// Whether the words are a token's row, which may lack its last word.
+fn is_token(w: &[usize]) -> bool
+    ensures { λ r. ⌜ r ≡ isToken (now (w .entry)) ⌝ }
+{
+    if w.len() < 6 {
+        return false;
+    }
+    (1 <= w[0]) & (w[0] <= 10)
+}
+
+// Unescapes the token of a row and writes the answer at the front of its words: true; or false, with nothing written, where the
+// row is no token's or there are fewer than five words for the answer.
+pub fn unescape(doc: &[u8], row: &[usize], out: &mut [u8], answer: &mut [usize]) -> bool
+    ensures { λ r. ⌜ r ≡ textOf (now (doc .entry)) (now (row .entry)) (now (out .entry)) (now (answer .entry)) .result ⌝ }
+    ensures { λ r. ⌜ now (out .exit) ≡ textOf (now (doc .entry)) (now (row .entry)) (now (out .entry)) (now (answer .entry)) .buffer ⌝ }
+    ensures { λ r. ⌜ now (answer .exit) ≡ textOf (now (doc .entry)) (now (row .entry)) (now (out .entry)) (now (answer .entry)) .words ⌝ }
+{
+    if !is_token(row) {
+        return false;
+    }
+    if answer.len() < 5 {
+        return false;
+    }
+    let t = token_in(row);
+    let a = unescape::unescape(t, doc, out);
+    let w = answer_words(a);
+    paste(&w, 0, answer);
+    true
+}

@@ -1,0 +1,318 @@
+-- Demand 3, clause 2: a token of a reading unescapes alike in P then S and, unraised, in P or S alone. Its text's bytes are the
+-- same, so its meaning is; only the place and the line at which it is delivered differ.
+use Prim.Native.Nat.{ℕ, suc, _+_, _-_, _≤_}
+use mathlib.Core.Path.{_≡_, refl, sym, ap, _∙_}
+use mathlib.Core.List.{List, [], _∷_, _++_}
+use mathlib.Core.Bool.{Bool, true, false, cond, _&&_}
+use native.Mathlib.Omega.{arith}
+use native.Mathlib.Nat.{add-assoc, zero-add}
+use lib.Dec.{eqb, leb, ltb}
+use lib.ListN.{length, take, drop, length-append, length-take}
+use borrow.Author.Tests.{le-ltb, le-leb, leb-true}
+use Rattle.text.specs.Utf8.{utf8, owes}
+use Rattle.text.specs.declared.bytes.Part.{Part}
+use Rattle.text.proofs.Cases.{by-bool, on-cond, and-left}
+use Rattle.tokenizer.specs.Token.{lineOf}
+use Rattle.tokenizer.specs.Lists.{tokens}
+use Rattle.tokenizer.specs.Step.{bytesOf, noPart, fitPart}
+use Rattle.tokenizer.specs.declared.token.Token.{Token}
+use Rattle.tokenizer.specs.declared.token.Token.the-variants.{
+  Newline,
+  Comment,
+  Indent,
+  Outdent,
+  ListItem,
+  MapKey,
+  Value,
+  MultilineHint,
+  MultilineValue,
+  NoValue,
+}
+use Rattle.tokenizer.specs.declared.state.Answer.{Answer as Came}
+use Rattle.tokenizer.specs.declared.state.Answer.the-variants as came
+use Rattle.tokenizer_claims.specs.Claims.{Text, TokenFits, Fits, All}
+use Rattle.tokenizer_claims.proofs.Claimed.{fit as reading-fit}
+use Rattle.text.specs.Bytes.{countWhile, notBreak}
+use Rattle.text.specs.Scalar.{isScalar, encoding}
+use Rattle.unescape_pieces.specs.Codes.{codeOf, simpleOf}
+use Rattle.unescape_pieces.specs.Meaning.{
+  Meaning,
+  part,
+  bytes,
+  code,
+  refused,
+  written,
+  Mode,
+  plain,
+  escape,
+  brace,
+  closed,
+  quoted,
+  simplyQuoted,
+  entryMeaning,
+  blockMeaning,
+  meaning,
+}
+use Rattle.unescape_pieces.specs.Words.{worded, wordsOf, sound}
+use Rattle.unescape_pieces.specs.declared.words.Reading.{Reading}
+use Rattle.unescape_pieces.specs.declared.words.Reading.the-variants.{AsIs, Entry, Block}
+use Rattle.unescape_pieces.specs.declared.words.Worded.{Worded}
+use Rattle.unescape.specs.Unescape.{Unescaped, delivered, wordsIn, unescapeOf}
+use Rattle.unescape.specs.declared.Answer.{Answer}
+use Rattle.unescape.specs.declared.Answer.the-variants.{Plain, Written, Refused}
+use Rattle.joining_claims.specs.Raising.{raisePart, raiseToken}
+use Rattle.joining_claims.specs.Alike.{Same, Alike}
+use Rattle.joining_claims.specs.Joined.{EachToken}
+use Rattle.joining_claims.specs.Never13.{Not13, Never13}
+use Rattle.joining_claims.proofs.Places.{part-above, part-below}
+
+-- A token of a reading is sound, so it is delivered
+
+text-sound : (d : List ℕ) (q : Part) → Text d q → sound d q ≡ true
+unfolding sound
+text-sound d q t = rw (le-leb (q .start) (q .end) (t .within .starts), le-leb (q .end) (length d) (t .within .ends), t .valid)
+
+-- the empty part is a text, so every token of a reading has a text and an indentation
+none-text : (d : List ℕ) → Text d noPart
+unfolding utf8 owes
+none-text d = record { within = record { starts = omega arith; ends = omega arith }; valid = refl }
+
+words-fit : (d : List ℕ) (t : Token) → TokenFits d t → Text d (wordsOf t .text) × Text d (wordsOf t .indent)
+unfolding wordsOf
+words-fit d (Newline m) f = (none-text d, none-text d)
+words-fit d (Comment m q) f = (f, none-text d)
+words-fit d (Indent m) f = (none-text d, none-text d)
+words-fit d (Outdent m) f = (none-text d, none-text d)
+words-fit d (ListItem m) f = (none-text d, none-text d)
+words-fit d (MapKey m q) f = (f, none-text d)
+words-fit d (Value m q) f = (f, none-text d)
+words-fit d (MultilineHint m q) f = (f, none-text d)
+words-fit d (MultilineValue m i q) f = (f .1, f .0)
+words-fit d (NoValue m) f = absurd f
+
+deliver : List ℕ → Token → List ℕ → Unescaped
+deliver d t o = delivered (wordsIn d (wordsOf t)) (wordsOf t .text .start) (lineOf t) o
+
+unescaped : (d : List ℕ) (t : Token) (o : List ℕ) → length d ≤ 16777216 → Text d (wordsOf t .text) × Text d (wordsOf t .indent)
+    → unescapeOf d t o ≡ deliver d t o
+unfolding unescapeOf deliver
+unescaped d t o l f =
+    rw (le-ltb 16777216 (length d) l, text-sound d (wordsOf t .text) (f .0), text-sound d (wordsOf t .indent) (f .1))
+
+-- A meaning's part lies within its text; no refusal but an invalid code is 8, and none is 13
+
+abbrev Proper : ℕ → Meaning → Type 0
+Proper n (part a e) = (a ≤ e) × (e ≤ n)
+Proper n (bytes w) = Unit {0}
+Proper n (code a e) = Unit {0}
+Proper n (refused r) = (eqb r 8 ≡ false) × (eqb r 13 ≡ false)
+
+written-proper : (n : ℕ) (w : List ℕ) (m : Meaning) → Proper n m → Proper n (written w m)
+written-proper n w (part a e) h = h
+written-proper n w (bytes l) h = tt
+written-proper n w (code a e) h = tt
+written-proper n w (refused r) h = h
+
+closed-proper : (n : ℕ) (r : List ℕ) → Proper n (closed r)
+closed-proper n [] = tt
+closed-proper n (b ∷ r) = (refl, refl)
+
+quoted-proper : (n : ℕ) (l : List ℕ) (m : Mode) (k : ℕ) → Proper n (quoted l m k)
+unfolding quoted
+quoted-proper n [] plain k = (refl, refl)
+quoted-proper n [] (escape s) k = (refl, refl)
+quoted-proper n [] (brace s h) k = tt
+quoted-proper n (b ∷ r) plain k =
+    on-cond (Proper n) (eqb b 34) (λ e. closed-proper n r)
+    (λ e. on-cond (Proper n) (eqb b 92) (λ f. quoted-proper n r (escape k) (k + 1)) (λ f. written-proper n (b ∷ []) (quoted r plain (k + 1)) (quoted-proper n r plain (k + 1))))
+quoted-proper n (b ∷ r) (escape s) k =
+    on-cond (Proper n) (eqb b 123) (λ e. quoted-proper n r (brace s []) (k + 1))
+    (λ e. on-cond (Proper n) (eqb (simpleOf b) 0) (λ f. tt) (λ f. written-proper n (simpleOf b ∷ []) (quoted r plain (k + 1)) (quoted-proper n r plain (k + 1))))
+quoted-proper n (b ∷ r) (brace s h) k =
+    on-cond (Proper n) (eqb b 125)
+    (λ e. on-cond (Proper n) (isScalar (codeOf h)) (λ f. written-proper n (encoding (codeOf h)) (quoted r plain (k + 1)) (quoted-proper n r plain (k + 1))) (λ f. tt))
+    (λ e. on-cond (Proper n) (eqb b 34) (λ f. tt) (λ f. quoted-proper n r (brace s (h ++ b ∷ [])) (k + 1)))
+
+entry-proper : (s : List ℕ) → Proper (length s) (entryMeaning s)
+unfolding entryMeaning simplyQuoted
+entry-proper [] = (omega arith, omega arith)
+entry-proper (b ∷ r) =
+    on-cond (Proper (suc (length r))) (eqb b 34)
+    (λ e. on-cond (Proper (suc (length r))) (simplyQuoted (b ∷ r))
+    (λ f. (omega (arith, leb-true 2 (suc (length r)) (and-left (leb 2 (suc (length r))) _ f)), omega arith))
+    (λ f. quoted-proper (suc (length r)) r plain 1))
+    (λ e. (omega arith, omega arith))
+
+meaning-proper : (r : Reading) (s i : List ℕ) → Proper (length s) (meaning r s i)
+unfolding meaning blockMeaning
+meaning-proper AsIs s i = (omega arith, omega arith)
+meaning-proper Entry s i = entry-proper s
+meaning-proper Block s i = on-cond (Proper (length s)) (eqb (countWhile notBreak s) (length s)) (λ e. (omega arith, omega arith)) (λ e. tt)
+
+-- One meaning, delivered at two places
+
+buffer-same : (m : Meaning) (a b k l : ℕ) (o : List ℕ) → delivered m a b o .buffer ≡ delivered m k l o .buffer
+unfolding delivered
+buffer-same (part x y) a b k l o = refl
+buffer-same (bytes w) a b k l o = by-bool (leb (length w) (length o)) (λ e. rw e) (λ e. rw e)
+buffer-same (code x y) a b k l o = refl
+buffer-same (refused r) a b k l o = refl
+
+module _ (p s : List ℕ) where
+  -- at the same place of P then S and of P
+  answer-above : (m : Meaning) (k l n : ℕ) (o : List ℕ) → Proper n m → k + n ≤ length p
+      → Same 0 0 (p ++ s) (delivered m k l o .answer) p (delivered m k l o .answer)
+  unfolding delivered Same raisePart
+  answer-above (part a e) k l n o h f = part-above p s (record { start = k + a; end = k + e }) (omega arith) (omega arith)
+  answer-above (bytes w) k l n o h f =
+      by-bool (leb (length w) (length o)) (λ e. rw e refl) (λ e. rw e (refl, omega arith, refl))
+  answer-above (code a e) k l n o h f = (refl, omega arith, rw (zero-add, zero-add))
+  answer-above (refused r) k l n o h f = (refl, omega arith, rw (h .0))
+
+  -- at a place of S and, raised, of P then S
+  answer-below : (m : Meaning) (k l j n : ℕ) (o : List ℕ) → Proper n m
+      → Same j (length p) (p ++ s) (delivered m (length p + k) (j + l) o .answer) s (delivered m k l o .answer)
+  unfolding delivered Same raisePart
+  answer-below (part a e) k l j n o h = rw (add-assoc, add-assoc) (part-below p s (record { start = k + a; end = k + e }))
+  answer-below (bytes w) k l j n o h =
+      by-bool (leb (length w) (length o)) (λ e. rw e refl) (λ e. rw e (refl, refl, refl))
+  answer-below (code a e) k l j n o h = (refl, refl, rw (add-assoc, add-assoc))
+  answer-below (refused r) k l j n o h = (refl, refl, rw (h .0))
+
+  -- Tokens of P
+
+  text-above : (q : Part) → Text p q → Text (p ++ s) q
+  text-above q t = record {
+    within = record { starts = t .within .starts; ends = omega (arith, t .within .ends, length-append p s) };
+    valid = rw (part-above p s q (t .within .starts) (t .within .ends)) (t .valid);
+  }
+
+  -- delivered there as in P alone
+  there-above : (t : Token) (o : List ℕ) → length (p ++ s) ≤ 16777216 → TokenFits p t → unescapeOf (p ++ s) t o ≡ deliver p t o
+  unfolding deliver
+  there-above t o l f =
+      let g = words-fit p t f in
+      unescaped (p ++ s) t o l (text-above (wordsOf t .text) (g .0), text-above (wordsOf t .indent) (g .1))
+      ∙ rw (part-above p s (wordsOf t .text) (g .0 .within .starts) (g .0 .within .ends), part-above p s (wordsOf t .indent) (g .1 .within .starts) (g .1 .within .ends))
+
+  here-above : (t : Token) (o : List ℕ) → length (p ++ s) ≤ 16777216 → TokenFits p t → unescapeOf p t o ≡ deliver p t o
+  here-above t o l f = unescaped p t o (omega (arith, length-append p s)) (words-fit p t f)
+
+  answers-above : (t : Token) (o : List ℕ) → TokenFits p t → Same 0 0 (p ++ s) (deliver p t o .answer) p (deliver p t o .answer)
+  unfolding deliver
+  answers-above t o f =
+      let q = wordsOf t .text in
+      let g = words-fit p t f .0 .within in
+      answer-above (wordsIn p (wordsOf t)) (q .start) (lineOf t) (length (bytesOf p q)) o
+      (meaning-proper (wordsOf t .reading) (bytesOf p q) (bytesOf p (wordsOf t .indent)))
+      (omega (arith, g .starts, g .ends, length-take (q .end - q .start) (drop (q .start) p)))
+
+  pub token-above : (t : Token) → length (p ++ s) ≤ 16777216 → TokenFits p t → Alike 0 0 (p ++ s) t p t
+  token-above t l f = record {
+    answers = λ o. rw (there-above t o l f, here-above t o l f) (answers-above t o f);
+    buffers = λ o. rw (there-above t o l f, here-above t o l f);
+  }
+
+  -- Tokens of S
+
+  text-below : (q : Part) → Text s q → Text (p ++ s) (raisePart (length p) q)
+  unfolding raisePart
+  text-below q t = record {
+    within = record { starts = omega (arith, t .within .starts); ends = omega (arith, t .within .ends, length-append p s) };
+    valid = unfold raisePart in (rw (part-below p s q) (t .valid));
+  }
+
+  -- A token t of P then S that is u raised by j lines: u has the text q and the indentation i, t has q raised and k.
+  record Lifted (j : ℕ) (t u : Token) (r : Reading) (q i k : Part) : Type 0 where
+    line : lineOf t ≡ j + lineOf u
+    lower : wordsOf u ≡ record { reading = r; text = q; indent = i }
+    upper : wordsOf t ≡ record { reading = r; text = raisePart (length p) q; indent = k }
+    indents : bytesOf (p ++ s) k ≡ bytesOf s i
+    indented : Text (p ++ s) k × Text s i
+    texted : Text s q
+
+  module _ (j : ℕ) (t u : Token) (r : Reading) (q i k : Part) (f : Lifted j t u r q i k) (l : length (p ++ s) ≤ 16777216) where
+    m : Meaning
+    m = meaning r (bytesOf s q) (bytesOf s i)
+
+    there-below : (o : List ℕ) → unescapeOf (p ++ s) t o ≡ delivered m (length p + q .start) (j + lineOf u) o
+    unfolding deliver raisePart m
+    there-below o =
+        unescaped (p ++ s) t o l (rw (f .upper) (text-below q (f .texted), f .indented .0))
+        ∙ rw (f .upper, f .line, part-below p s q, f .indents)
+
+    here-below : (o : List ℕ) → unescapeOf s u o ≡ delivered m (q .start) (lineOf u) o
+    unfolding deliver m
+    here-below o = unescaped s u o (omega (arith, length-append p s)) (rw (f .lower) (f .texted, f .indented .1)) ∙ rw (f .lower)
+
+    lifted-alike : Alike j (length p) (p ++ s) t s u
+    unfolding m
+    lifted-alike = record {
+      answers = λ o. rw (there-below o, here-below o) (answer-below m (q .start) (lineOf u) j (length (bytesOf s q)) o (meaning-proper r (bytesOf s q) (bytesOf s i)));
+      buffers = λ o. rw (there-below o, here-below o) (buffer-same m _ _ _ _ o);
+    }
+
+  -- a text and no indentation
+  texted-alike : (j : ℕ) (t u : Token) (r : Reading) (q : Part) → lineOf t ≡ j + lineOf u → wordsOf u ≡ worded r q → wordsOf t ≡ worded r (raisePart (length p) q)
+      → Text s q → length (p ++ s) ≤ 16777216 → Alike j (length p) (p ++ s) t s u
+  texted-alike j t u r q n x y f l =
+      lifted-alike j t u r q noPart noPart
+      (record { line = n; lower = x; upper = y; indents = refl; indented = (none-text (p ++ s), none-text s); texted = f })
+      l
+
+  -- a token without a text keeps its empty part at 0
+  none-delivered : (d : List ℕ) (t : Token) (o : List ℕ) → wordsOf t ≡ worded AsIs noPart → length d ≤ 16777216
+      → unescapeOf d t o ≡ record { answer = Plain noPart; buffer = o }
+  unfolding deliver meaning delivered
+  none-delivered d t o x l = unescaped d t o l (rw x (none-text d, none-text d)) ∙ rw x
+
+  bare-alike : (j : ℕ) (t u : Token) → wordsOf t ≡ worded AsIs noPart → wordsOf u ≡ worded AsIs noPart → length (p ++ s) ≤ 16777216
+      → Alike j (length p) (p ++ s) t s u
+  unfolding Same
+  bare-alike j t u x y l =
+      let h : length s ≤ 16777216 = omega (arith, length-append p s) in
+      record {
+        answers = λ o. rw (none-delivered (p ++ s) t o x l, none-delivered s u o y h);
+        buffers = λ o. rw (none-delivered (p ++ s) t o x l, none-delivered s u o y h);
+      }
+
+  pub token-below : (j : ℕ) (t : Token) → length (p ++ s) ≤ 16777216 → TokenFits s t → Alike j (length p) (p ++ s) (raiseToken j (length p) t) s t
+  unfolding raiseToken wordsOf lineOf
+  token-below j (Newline m) l f = bare-alike j _ _ refl refl l
+  token-below j (Comment m q) l f = texted-alike j _ _ AsIs q refl refl refl f l
+  token-below j (Indent m) l f = bare-alike j _ _ refl refl l
+  token-below j (Outdent m) l f = bare-alike j _ _ refl refl l
+  token-below j (ListItem m) l f = bare-alike j _ _ refl refl l
+  token-below j (MapKey m q) l f = texted-alike j _ _ Entry q refl refl refl f l
+  token-below j (Value m q) l f = texted-alike j _ _ Entry q refl refl refl f l
+  token-below j (MultilineHint m q) l f = texted-alike j _ _ AsIs q refl refl refl f l
+  token-below j (MultilineValue m i q) l f =
+      lifted-alike j _ _ Block q i (raisePart (length p) i)
+      (record { line = refl; lower = refl; upper = refl; indents = part-below p s i; indented = (text-below i (f .0), f .0); texted = f .1 })
+      l
+  token-below j (NoValue m) l f = absurd f
+
+-- every token of a reading fits
+pub each-token : (d : List ℕ) (F : Token → Type 0) → ((t : Token) → TokenFits d t → F t) → (l : List Came) → All (Fits d) l → EachToken F l
+each-token d F h [] a = tt
+each-token d F h (came.End ∷ l) a = absurd (a .0)
+each-token d F h (came.Token t ∷ l) a = (h t (a .0), each-token d F h l (a .1))
+each-token d F h (came.Refused n m ∷ l) a = each-token d F h l (a .1)
+
+delivered-not13 : (m : Meaning) (n k l : ℕ) (o : List ℕ) → Proper n m → Not13 (delivered m k l o .answer)
+unfolding delivered
+delivered-not13 (part a e) n k l o h = tt
+delivered-not13 (bytes w) n k l o h = by-bool (leb (length w) (length o)) (λ e. rw e tt) (λ e. rw e refl)
+delivered-not13 (code a e) n k l o h = refl
+delivered-not13 (refused r) n k l o h = h .1
+
+token-not13 : (d : List ℕ) (t : Token) → length d ≤ 16777216 → TokenFits d t → (o : List ℕ) → Not13 (unescapeOf d t o .answer)
+unfolding deliver
+token-not13 d t l f o =
+    let s = bytesOf d (wordsOf t .text) in
+    rw (unescaped d t o l (words-fit d t f))
+    (delivered-not13 (wordsIn d (wordsOf t)) (length s) (wordsOf t .text .start) (lineOf t) o
+    (meaning-proper (wordsOf t .reading) s (bytesOf d (wordsOf t .indent))))
+
+pub never13 : Never13
+never13 d l = each-token d _ (λ t f. token-not13 d t l f) (tokens d) (reading-fit d l)

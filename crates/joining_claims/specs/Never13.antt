@@ -1,0 +1,21 @@
+-- No token of a reading is refused by 13: its text and its indentation lie within the document and are UTF-8.
+use Prim.Native.Nat.{ℕ, _≤_}
+use mathlib.Core.Path.{_≡_}
+use mathlib.Core.List.{List}
+use mathlib.Core.Bool.{false}
+use lib.Dec.{eqb}
+use lib.ListN.{length}
+use Rattle.tokenizer.specs.Lists.{tokens}
+use Rattle.unescape.specs.Unescape.{unescapeOf}
+use Rattle.unescape.specs.declared.Answer.{Answer}
+use Rattle.unescape.specs.declared.Answer.the-variants.{Plain, Written, Refused}
+use Rattle.joining_claims.specs.Joined.{EachToken}
+
+abbrev pub Not13 : Answer → Type 0
+Not13 (Plain p) = Unit {0}
+Not13 (Written n) = Unit {0}
+Not13 (Refused r l p) = eqb r 13 ≡ false
+
+-- with every buffer
+abbrev pub Never13 : Type 0
+Never13 = (d : List ℕ) → length d ≤ 16777216 → EachToken (λ t. (o : List ℕ) → Not13 (unescapeOf d t o .answer)) (tokens d)

@@ -1,0 +1,114 @@
+// The listing's rows, and the listing.
+use crate::writing::put_number;
+use crate::writing::put_text;
+use tokenizer_words::token_row;
+use parser::State;
+use parser::Step;
+use parser_rules::Answer;
+use tokenizer::Token;
+ghost use mathlib.Core.Path.{_≡_};
+ghost use Prim.Native.Nat.{_+_, _≤_, _<_, _^_};
+ghost use lib.ListN.{length};
+ghost use Rattle.tokenizer.specs.Token.{tokenValues};
+ghost use Rattle.parser.specs.Lists.{isEnd};
+ghost use Rattle.listing_text.specs.Text.{placed, filled};
+ghost use Rattle.listing_text.specs.Listing.{kindText, rowText, tokenText, answerText, listingOf};
+
+// How many bytes a document may have.
+const MAX_LISTED: usize = 65536;
+
+// A kind is a number; a refusal's has an R before it.
+fn put_kind(refused: bool, n: usize, at: usize, out: &mut [u8]) -> usize
+    requires { ⌜ at + 21 < 2 ^ 64 ⌝ }
+    ensures { λ r. ⌜ r ≡ at + length (kindText refused n) ⌝ }
+    ensures { λ r. ⌜ r ≤ at + 21 ⌝ }
+    ensures { λ r. ⌜ now (out .exit) ≡ placed (kindText refused n) at (now (out .entry)) ⌝ }
+{
+    if refused {
+        let a = put_text(b"R", at, out);
+        return put_number(n, a, out);
+    }
+    put_number(n, at, out)
+}
+
+// A row: line, kind, start and end.
+fn put_row(
+    line: usize,
+    refused: bool,
+    kind: usize,
+    start: usize,
+    end: usize,
+    at: usize,
+    out: &mut [u8],
+) -> usize
+    requires { ⌜ at + 85 < 2 ^ 64 ⌝ }
+    ensures { λ r. ⌜ r ≡ at + length (rowText line (kindText refused kind) start end) ⌝ }
+    ensures { λ r. ⌜ r ≤ at + 85 ⌝ }
+    ensures { λ r. ⌜ now (out .exit) ≡ placed (rowText line (kindText refused kind) start end) at (now (out .entry)) ⌝ }
+{
+    let a = put_number(line, at, out);
+    let b = put_text(b" ", a, out);
+    let c = put_kind(refused, kind, b, out);
+    let d = put_text(b" ", c, out);
+    let e = put_number(start, d, out);
+    let f = put_text(b" ", e, out);
+    let g = put_number(end, f, out);
+    put_text(b"\n", g, out)
+}
+
+fn put_token(t: Token, at: usize, out: &mut [u8]) -> usize
+    requires { ⌜ at + 85 < 2 ^ 64 ⌝ }
+    ensures { λ r. ⌜ r ≡ at + length (tokenText (tokenValues t)) ⌝ }
+    ensures { λ r. ⌜ r ≤ at + 85 ⌝ }
+    ensures { λ r. ⌜ now (out .exit) ≡ placed (tokenText (tokenValues t)) at (now (out .entry)) ⌝ }
+{
+    let r = token_row(t);
+    put_row(r[1], false, r[0], r[2], r[3], at, out)
+}
+
+// The row of an answer; End has none.
+fn put_answer(a: Answer, at: usize, out: &mut [u8]) -> usize
+    requires { ⌜ at + 85 < 2 ^ 64 ⌝ }
+    ensures { λ r. ⌜ r ≡ at + length (answerText a) ⌝ }
+    ensures { λ r. ⌜ r ≤ at + 85 ⌝ }
+    ensures { λ r. ⌜ now (out .exit) ≡ placed (answerText a) at (now (out .entry)) ⌝ }
+{
+    match a {
+        Answer::End => at,
+        Answer::Token(t) => put_token(t, at, out),
+        Answer::Refused(n, line) => put_row(line, true, n, 0, 0, at, out),
+    }
+}
+
+fn is_end(a: Answer) -> bool
+    ensures { λ r. ⌜ r ≡ isEnd a ⌝ }
+{
+    match a {
+        Answer::End => true,
+        Answer::Token(_) => false,
+        Answer::Refused(_, _) => false,
+    }
+}
+
+// Writes the listing into out, as far as it goes, and answers how many bytes the listing has.
+pub fn listing(doc: &[u8], out: &mut [u8]) -> usize
+    ensures { λ r. ⌜ r ≡ length (listingOf (now (doc .entry))) ⌝ }
+    ensures { λ r. ⌜ now (out .exit) ≡ filled (listingOf (now (doc .entry))) (now (out .entry)) ⌝ }
+{
+    let mut at = put_text(b"line kind start end\n", 0, out);
+    if MAX_LISTED < doc.len() {
+        return put_row(0, true, 12, 0, 0, at, out);
+    }
+    let mut state = State::new();
+    loop {
+        let Step {
+            answer,
+            state: next,
+        } = state.step(doc);
+        if is_end(answer) {
+            return at;
+        }
+        at = put_answer(answer, at, out);
+        state = next;
+    }
+}

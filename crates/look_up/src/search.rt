@@ -1,0 +1,158 @@
+// The look-up: one pass over the parser's answers.
+use parser::State;
+use parser::Step;
+use parser_rules::Answer;
+use text::Part;
+use tokenizer::Token;
+ghost use mathlib.Core.Path.{_≡_};
+ghost use Rattle.tokenizer_claims.specs.Claims.{Within};
+ghost use Rattle.parser_claims.specs.Claims.{TokenFits};
+ghost use Rattle.look_up.specs.Entries.{isSame, lookUp, entryOf};
+ghost use Rattle.look_up.specs.Search.{HasRoom, MayCome, closedAt, onKey, onToken, onAnswer};
+
+// What the look-up answers: nothing, or the line of the key with the entry's part of the document, or the parser's refusal
+// with its number and line.
+pub enum Found {
+    Nothing,
+    At(usize, Part),
+    Refused(usize, usize),
+}
+
+// The key that was wanted, once it is found: its line and its first byte's place.
+pub enum Hit {
+    Nothing,
+    At(usize, usize),
+}
+
+// Where the look-up stands: how many Indents and Outdents came, and the hit.
+pub struct Search {
+    pub indents: usize,
+    pub outdents: usize,
+    pub hit: Hit,
+}
+
+pub enum Turn {
+    Goes(Search),
+    Ends(Found),
+}
+
+fn is_same(a: &[u8], b: &[u8]) -> bool
+    ensures { λ r. ⌜ r ≡ isSame (now (a .entry)) (now (b .entry)) ⌝ }
+{
+    if a.len() != b.len() {
+        return false;
+    }
+    text::starts_with(a, b)
+}
+
+// An entry that was hit ends at `end`.
+fn closed(hit: Hit, end: usize) -> Found
+    ensures { λ r. ⌜ r ≡ closedAt hit end ⌝ }
+{
+    match hit {
+        Hit::Nothing => Found::Nothing,
+        Hit::At(line, start) => Found::At(line, Part { start, end }),
+    }
+}
+
+// A top-level key ends the entry that was hit, else it may be the one that is wanted.
+fn on_key(s: Search, line: usize, p: Part, doc: &[u8], wanted: &[u8]) -> Turn
+    requires { ⌜ Within (now doc) p ⌝ }
+    ensures { λ r. ⌜ r ≡ onKey (now (doc .entry)) (now (wanted .entry)) s line p ⌝ }
+{
+    if s.indents != s.outdents {
+        return Turn::Goes(s);
+    }
+    let hit = s.hit;
+    let start = p.start;
+    let end = p.end;
+    if let Hit::At(_, _) = hit {
+        return Turn::Ends(closed(hit, start));
+    }
+    if is_same(&doc[start..end], wanted) {
+        return Turn::Goes(Search {
+            indents: s.indents,
+            outdents: s.outdents,
+            hit: Hit::At(line, start),
+        });
+    }
+    Turn::Goes(s)
+}
+
+fn on_token(s: Search, t: Token, doc: &[u8], wanted: &[u8]) -> Turn
+    requires { ⌜ HasRoom s ⌝ }
+    requires { ⌜ TokenFits (now doc) t ⌝ }
+    ensures { λ r. ⌜ r ≡ onToken (now (doc .entry)) (now (wanted .entry)) s t ⌝ }
+{
+    let hit = s.hit;
+    match t {
+        Token::Indent(_) => Turn::Goes(Search {
+            indents: s.indents + 1,
+            outdents: s.outdents,
+            hit,
+        }),
+        Token::Outdent(_) => Turn::Goes(Search {
+            indents: s.indents,
+            outdents: s.outdents + 1,
+            hit,
+        }),
+        Token::MapKey(line, p) => on_key(s, line, p, doc, wanted),
+        _ => Turn::Goes(s),
+    }
+}
+
+fn on_answer(s: Search, a: Answer, doc: &[u8], wanted: &[u8]) -> Turn
+    requires { ⌜ HasRoom s ⌝ }
+    requires { ⌜ MayCome (now doc) a ⌝ }
+    ensures { λ r. ⌜ r ≡ onAnswer (now (doc .entry)) (now (wanted .entry)) s a ⌝ }
+{
+    match a {
+        Answer::End => {
+            let hit = s.hit;
+            Turn::Ends(closed(hit, doc.len()))
+        }
+        Answer::Token(t) => on_token(s, t, doc, wanted),
+        Answer::Refused(n, line) => Turn::Ends(Found::Refused(n, line)),
+    }
+}
+
+// The first top-level key whose bytes in the document are those of `wanted`: its line, and the part from its first byte to the
+// next top-level key's, or to the document's end. A refusal that is met before then is the answer; 12 over the limit.
+pub fn look_up(doc: &[u8], wanted: &[u8]) -> Found
+    ensures { λ r. ⌜ r ≡ lookUp (now (doc .entry)) (now (wanted .entry)) ⌝ }
+{
+    if tokenizer::State::MAX_DOCUMENT < doc.len() {
+        return Found::Refused(12, 0);
+    }
+    let mut state = State::new();
+    let mut search = Search {
+        indents: 0,
+        outdents: 0,
+        hit: Hit::Nothing,
+    };
+    loop {
+        let Step {
+            answer,
+            state: next,
+        } = state.step(doc);
+        match on_answer(search, answer, doc, wanted) {
+            Turn::Ends(found) => return found,
+            Turn::Goes(s) => {
+                search = s;
+                state = next;
+            }
+        }
+    }
+}
+
+// The part of the document that the look-up finds, else an empty one.
+pub fn entry<'a>(doc: &'a [u8], wanted: &[u8]) -> &'a [u8]
+    ensures { λ r. ⌜ now r ≡ entryOf (now (doc .entry)) (now (wanted .entry)) ⌝ }
+{
+    let Found::At(_, p) = look_up(doc, wanted) else {
+        return &doc[..0];
+    };
+    let start = p.start;
+    let end = p.end;
+    &doc[start..end]
+}

@@ -1,0 +1,115 @@
+-- A parser's state in the words of a lent slice: the tokenizer's 137; whether it has refused (0 or 1); what is awaited (0
+-- nothing, 1 a value, 2 a multiline value) with its line; a row for what is kept (number 0 for nothing, 11 for End); the number
+-- of open sections, and the sort of each of the 65 (0 unset, 1 map, 2 list). 213 words.
+use Prim.Native.Nat.{ℕ, zero, suc, _+_}
+use mathlib.Core.List.{List, [], _∷_, _++_}
+use mathlib.Core.Bool.{Bool, true, cond, _&&_}
+use lib.Dec.{eqb, leb}
+use lib.ListN.{length, getD, drop}
+use Rattle.text.specs.declared.bytes.Part.{Part}
+use Rattle.tokenizer.specs.Token.{bare, tokenValues}
+use Rattle.tokenizer.specs.declared.token.Token.{Token}
+use Rattle.tokenizer.specs.declared.token.Token.the-variants as token
+use Rattle.parser.specs.Step.{fresh}
+use Rattle.parser_rules.specs.declared.ruling.Sort.{Sort}
+use Rattle.parser_rules.specs.declared.ruling.Sort.the-variants.{Unset, Map, List as Listed}
+use Rattle.parser_rules.specs.declared.ruling.Awaited.{Awaited}
+use Rattle.parser_rules.specs.declared.ruling.Awaited.the-variants as awaited
+use Rattle.parser_rules.specs.declared.ruling.Kept.{Kept}
+use Rattle.parser_rules.specs.declared.ruling.Kept.the-variants as kept
+use Rattle.parser.specs.declared.state.Section.{Section}
+use Rattle.parser.specs.declared.state.State.{State}
+use Rattle.tokenizer_words.specs.Words.{flag, wordsOf, stateIn, readable}
+use Rattle.tokenizer_words.specs.Rows.{rowOf}
+
+unfoldable pub sortWord : Sort → ℕ
+sortWord Unset = 0
+sortWord Map = 1
+sortWord Listed = 2
+
+unfoldable pub sortWords : List Section → List ℕ
+sortWords [] = []
+sortWords (s ∷ l) = sortWord (s .sort) ∷ sortWords l
+
+unfoldable pub awaitedWords : Awaited → List ℕ
+awaitedWords awaited.Nothing = 0 ∷ 0 ∷ []
+awaitedWords (awaited.Value l) = 1 ∷ l ∷ []
+awaitedWords (awaited.Multiline l) = 2 ∷ l ∷ []
+
+unfoldable pub keptWords : Kept → List ℕ
+keptWords kept.Nothing = rowOf (bare 0 0)
+keptWords (kept.Token t) = rowOf (tokenValues t)
+keptWords kept.End = rowOf (bare 11 0)
+
+-- between the tokenizer's words and the sorts: eleven words
+unfoldable pub middleWords : State → List ℕ
+middleWords s = flag (s .refused) ∷ (awaitedWords (s .awaited) ++ keptWords (s .kept) ++ (s .count ∷ []))
+
+-- the words of a state
+unfoldable pub parserWords : State → List ℕ
+parserWords s = wordsOf (s .tokenizer) ++ middleWords s ++ sortWords (s .sections)
+
+unfoldable pub sortIn : ℕ → Sort
+sortIn n = getD (Unset ∷ Map ∷ Listed ∷ []) n Unset
+
+-- the sections whose sorts are n words
+unfoldable pub sectionsIn : ℕ → List ℕ → List Section
+sectionsIn zero w = []
+sectionsIn (suc n) w = record { sort = sortIn (getD w 0 0) } ∷ sectionsIn n (drop 1 w)
+
+unfoldable pub awaitedIn : ℕ → ℕ → Awaited
+awaitedIn n l = getD (awaited.Nothing ∷ awaited.Value l ∷ awaited.Multiline l ∷ []) n awaited.Nothing
+
+-- the token of a number, its line, its text and its indentation; NoValue for a number that is no other token's
+unfoldable pub tokenBy : ℕ → ℕ → Part → Part → Token
+tokenBy n l p i =
+    getD
+    (token.NoValue l
+    ∷ token.Newline l
+    ∷ token.Comment l p
+    ∷ token.Indent l
+    ∷ token.Outdent l
+    ∷ token.ListItem l
+    ∷ token.MapKey l p
+    ∷ token.Value l p
+    ∷ token.MultilineHint l p
+    ∷ token.MultilineValue l i p
+    ∷ [])
+    n
+    (token.NoValue l)
+
+-- the token of a row
+unfoldable pub tokenIn : List ℕ → Token
+tokenIn w =
+    tokenBy (getD w 0 0) (getD w 1 0) (record { start = getD w 2 0; end = getD w 3 0 }) (record { start = getD w 4 0; end = getD w 5 0 })
+
+-- what a row says is kept
+unfoldable pub keptIn : List ℕ → Kept
+keptIn w = cond (eqb (getD w 0 0) 0) kept.Nothing (cond (eqb (getD w 0 0) 11) kept.End (kept.Token (tokenIn w)))
+
+-- the state in words
+unfoldable pub parserIn : List ℕ → State
+parserIn w = record {
+  tokenizer = stateIn w;
+  kept = keptIn (drop 140 w);
+  awaited = awaitedIn (getD w 138 0) (getD w 139 0);
+  refused = eqb (getD w 137 0) 1;
+  sections = sectionsIn 65 (drop 148 w);
+  count = getD w 147 0;
+}
+
+-- n words are sorts
+unfoldable pub areSorts : ℕ → List ℕ → Bool
+areSorts zero w = true
+areSorts (suc n) w = leb (getD w 0 0) 2 && areSorts n (drop 1 w)
+
+-- the words are a parser's state: there are 213, and each is one that stands for something; else they are an unfit state, 15
+unfoldable pub parserReadable : List ℕ → Bool
+parserReadable w =
+    leb 213 (length w)
+    && (readable w
+    && (leb (getD w 137 0) 1 && (leb (getD w 138 0) 2 && (leb (getD w 140 0) 11 && areSorts 65 (drop 148 w)))))
+
+-- the words with the fresh state at their front; unchanged where there are fewer than 213
+unfoldable pub freshParserIn : List ℕ → List ℕ
+freshParserIn w = cond (leb 213 (length w)) (parserWords fresh ++ drop 213 w) w

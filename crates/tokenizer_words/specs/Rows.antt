@@ -1,0 +1,77 @@
+-- A batch of steps, in the words of lent slices: a row of seven words for each answer before the batch stops, and the state
+-- after them.
+use Prim.Native.Nat.{ℕ, zero, suc, _+_, _*_, _/_, _^_}
+use mathlib.Core.List.{List, [], _∷_, _++_}
+use mathlib.Core.Bool.{Bool, cond, _&&_}
+use lib.Dec.{ltb}
+use lib.ListN.{length, drop}
+use Rattle.tokenizer.specs.Token.{Values, valuesOf}
+use Rattle.tokenizer.specs.Step.{fit, stepOf}
+use Rattle.tokenizer.specs.Lists.{isEnd}
+use Rattle.tokenizer.specs.declared.state.State.{State}
+use Rattle.tokenizer_words.specs.Words.{wordsOf, stateIn, readable}
+
+-- a row: number, line, start, end, the indentation's start and end, and a word that is 0
+abbrev pub rowOf : Values → List ℕ
+rowOf v = v .number ∷ v .line ∷ v .start ∷ v .end ∷ v .from ∷ v .to ∷ 0 ∷ []
+
+unfoldable pub rowsOf : List Values → List ℕ
+rowsOf [] = []
+rowsOf (v ∷ l) = rowOf v ++ rowsOf l
+
+-- lent words with the rows of answers at their front
+unfoldable pub rowsIn : List Values → List ℕ → List ℕ
+rowsIn l rows = rowsOf l ++ drop (7 * length l) rows
+
+-- steps over a document: the answer at a state, the state after it, and whether a batch stops before it
+pub record Steps (S : Type 0) : Type 0 where
+  pub says : S → Values
+  pub next : S → S
+  pub stops : S → Bool
+
+-- answers, and the state after them
+pub record Taken (S : Type 0) : Type 0 where
+  pub answers : List Values
+  pub state : S
+
+abbrev pub takenMore : {S : Type 0} → Values → Taken S → Taken S
+takenMore v t = record { answers = v ∷ t .answers; state = t .state }
+
+-- at most n answers from a state on; the one that stops, and what comes with it, is not taken
+unfoldable pub taken : {S : Type 0} → Steps S → ℕ → S → Taken S
+taken m zero s = record { answers = []; state = s }
+taken m (suc n) s =
+    let t = takenMore (m .says s) (taken m n (m .next s)) in
+    cond (m .stops s) (record { answers = []; state = s }) t
+
+-- what a batch returns and leaves in the lent slices
+pub record Batch : Type 0 where
+  pub result : ℕ
+  pub words : List ℕ
+  pub rows : List ℕ
+
+-- a refusal: its number above any count of rows, and nothing written
+abbrev pub refusedBatch : ℕ → List ℕ → List ℕ → Batch
+refusedBatch n w rows = record { result = 2 ^ 63 + n; words = w; rows = rows }
+
+-- the answers' rows, and the words w of the state after them
+abbrev pub takenBatch : List Values → List ℕ → List ℕ → Batch
+takenBatch l w rows = record { result = length l; words = w; rows = rowsIn l rows }
+
+-- 12, then 15 where the words are no fit state's, before the first step
+unfoldable pub batchBy : List ℕ → Bool → Batch → List ℕ → List ℕ → Batch
+batchBy d fits b w rows = cond (ltb 16777216 (length d)) (refusedBatch 12 w rows) (cond fits b (refusedBatch 15 w rows))
+
+-- the tokenizer's steps stop at End
+abbrev pub tokenizing : List ℕ → Steps State
+tokenizing d = record {
+  says = λ s. valuesOf (stepOf d s .answer);
+  next = λ s. stepOf d s .state;
+  stops = λ s. isEnd (stepOf d s .answer);
+}
+
+-- as many of the tokenizer's steps as there is room for rows
+unfoldable pub batchOf : List ℕ → List ℕ → List ℕ → Batch
+batchOf d w rows =
+    let t = taken (tokenizing d) (length rows / 7) (stateIn w) in
+    batchBy d (readable w && fit (length d) (stateIn w)) (takenBatch (t .answers) (wordsOf (t .state) ++ drop 137 w) rows) w rows
