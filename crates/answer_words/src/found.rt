@@ -1,6 +1,6 @@
 // The look-up over lent words: the answer in five words.
-use tokenizer_words::paste;
 use look_up::Found;
+use tokenizer_words::paste;
 ghost use mathlib.Core.Path.{_≡_};
 ghost use lib.Dec.{leb};
 ghost use lib.ListN.{length};

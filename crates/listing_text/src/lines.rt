@@ -1,11 +1,11 @@
 // The listing's rows, and the listing.
 use crate::writing::put_number;
 use crate::writing::put_text;
-use tokenizer_words::token_row;
 use parser::State;
 use parser::Step;
 use parser_rules::Answer;
 use tokenizer::Token;
+use tokenizer_words::token_row;
 ghost use mathlib.Core.Path.{_≡_};
 ghost use Prim.Native.Nat.{_+_, _≤_, _<_, _^_};
 ghost use lib.ListN.{length};

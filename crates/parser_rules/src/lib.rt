@@ -1,6 +1,9 @@
 // The parser's rules of document 01: what becomes of one answer of the tokenizer.
+mod judging;
 mod ruling;
 
+pub use judging::Judged;
+pub use judging::judge;
 pub use ruling::Answer;
 pub use ruling::Awaited;
 pub use ruling::Change;

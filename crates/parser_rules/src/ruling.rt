@@ -1,21 +1,12 @@
-// What the parser makes of one answer of the tokenizer: the ruling knows neither the document nor the record of sections.
+// What the parser makes of one answer of the tokenizer: the ruling knows neither the document nor the record of sections. It is
+// judged by numbers; here the judgement becomes the ruling.
+use crate::judging::Judged;
+use crate::judging::judge;
 use tokenizer::Token;
 ghost use mathlib.Core.Path.{_≡_};
-ghost use Rattle.parser_rules.specs.Ruling.{
-  givesOn,
-  refuses,
-  noValue,
-  clashes,
-  onEntry,
-  onOutdent,
-  onIndent,
-  settled,
-  afterEntry,
-  afterHint,
-  onToken,
-  onEnd,
-  rulingOf,
-};
+ghost use Rattle.tokenizer.specs.Token.{tokenValues};
+ghost use Rattle.parser_rules.specs.Ruling.{givesOn, refuses, noValue, rulingOf};
+ghost use Rattle.parser_rules.specs.Judging.{sortNumber, awaitedNumber, awaitedLine, madeBy};
 
 // The parser's own answer: a token, or a refusal with its number and line.
 pub enum Answer {
@@ -114,124 +105,79 @@ fn no_value(line: usize, kept: Kept) -> Ruling
     })
 }
 
-// Whether a section of the first sort has no room for an entry of the second.
-fn clash(inner: Sort, entry: Sort) -> bool
-    ensures { λ r. ⌜ r ≡ clashes inner entry ⌝ }
+// A token's kind.
+fn kind(t: Token) -> usize
+    ensures { λ r. ⌜ r ≡ tokenValues t .number ⌝ }
 {
-    match inner {
-        Sort::Unset => false,
-        Sort::Map => {
-            match entry {
-                Sort::List => true,
-                _ => false,
-            }
-        }
-        Sort::List => {
-            match entry {
-                Sort::Map => true,
-                _ => false,
-            }
-        }
+    match t {
+        Token::Newline(_) => 1,
+        Token::Comment(_, _) => 2,
+        Token::Indent(_) => 3,
+        Token::Outdent(_) => 4,
+        Token::ListItem(_) => 5,
+        Token::MapKey(_, _) => 6,
+        Token::Value(_, _) => 7,
+        Token::MultilineHint(_, _) => 8,
+        Token::MultilineValue(_, _, _) => 9,
+        Token::NoValue(_) => 10,
     }
 }
 
-// The first key or item fixes its section's sort; one of the other sort is refused by `number`.
-fn enter(t: Token, line: usize, sort: Sort, number: usize, innermost: Innermost) -> Ruling
-    ensures { λ r. ⌜ r ≡ onEntry t line sort number innermost ⌝ }
-{
-    let Innermost::Of(inner) = innermost else {
-        return Ruling::Unfit;
-    };
-    if clash(inner, sort) {
-        return refuse(number, line, Awaited::Nothing);
-    }
-    gives_on(t, Awaited::Value(line), Change::Fix(sort))
-}
-
-fn outdent(t: Token, innermost: Innermost) -> Ruling
-    ensures { λ r. ⌜ r ≡ onOutdent t innermost ⌝ }
+fn sort_number(innermost: Innermost) -> usize
+    ensures { λ r. ⌜ r ≡ sortNumber innermost ⌝ }
 {
     match innermost {
-        Innermost::Missing => Ruling::Unfit,
-        Innermost::Of(_) => gives_on(t, Awaited::Nothing, Change::Close),
+        Innermost::Missing => 3,
+        Innermost::Of(s) => {
+            match s {
+                Sort::Unset => 0,
+                Sort::Map => 1,
+                Sort::List => 2,
+            }
+        }
     }
 }
 
-// Nothing is awaited.
-fn settle(innermost: Innermost, t: Token) -> Ruling
-    ensures { λ r. ⌜ r ≡ settled innermost t ⌝ }
-{
-    match t {
-        Token::Newline(_) => gives_on(t, Awaited::Nothing, Change::Keep),
-        Token::Comment(_, _) => gives_on(t, Awaited::Nothing, Change::Keep),
-        Token::Indent(line) => refuse(7, line, Awaited::Nothing),
-        Token::Outdent(_) => outdent(t, innermost),
-        Token::ListItem(line) => enter(t, line, Sort::List, 6, innermost),
-        Token::MapKey(line, _) => enter(t, line, Sort::Map, 5, innermost),
-        Token::Value(_, _) => Ruling::Unfit,
-        Token::MultilineHint(_, _) => Ruling::Unfit,
-        Token::MultilineValue(_, _, _) => Ruling::Unfit,
-        Token::NoValue(_) => Ruling::Unfit,
-    }
-}
-
-// An Indent after a key or item opens a section; a 66th is unfit.
-fn indent(t: Token, full: bool) -> Ruling
-    ensures { λ r. ⌜ r ≡ onIndent t full ⌝ }
-{
-    if full {
-        return Ruling::Unfit;
-    }
-    gives_on(t, Awaited::Nothing, Change::Open)
-}
-
-// After a key or item of that line.
-fn after_entry(line: usize, full: bool, t: Token) -> Ruling
-    ensures { λ r. ⌜ r ≡ afterEntry line full t ⌝ }
-{
-    match t {
-        Token::Newline(_) => gives_on(t, Awaited::Value(line), Change::Keep),
-        Token::Comment(_, _) => gives_on(t, Awaited::Value(line), Change::Keep),
-        Token::Indent(_) => indent(t, full),
-        Token::Outdent(_) => no_value(line, Kept::Token(t)),
-        Token::ListItem(_) => no_value(line, Kept::Token(t)),
-        Token::MapKey(_, _) => no_value(line, Kept::Token(t)),
-        Token::Value(_, _) => gives_on(t, Awaited::Nothing, Change::Keep),
-        Token::MultilineHint(_, _) => gives_on(t, Awaited::Multiline(line), Change::Keep),
-        Token::MultilineValue(_, _, _) => no_value(line, Kept::Token(t)),
-        Token::NoValue(_) => no_value(line, Kept::Token(t)),
-    }
-}
-
-// After the hint of a key or item of that line.
-fn after_hint(line: usize, t: Token) -> Ruling
-    ensures { λ r. ⌜ r ≡ afterHint line t ⌝ }
-{
-    match t {
-        Token::Newline(_) => gives_on(t, Awaited::Multiline(line), Change::Keep),
-        Token::Comment(_, _) => gives_on(t, Awaited::Multiline(line), Change::Keep),
-        Token::MultilineValue(_, _, _) => gives_on(t, Awaited::Nothing, Change::Keep),
-        _ => refuse(4, line, Awaited::Nothing),
-    }
-}
-
-fn on_token(awaited: Awaited, innermost: Innermost, full: bool, t: Token) -> Ruling
-    ensures { λ r. ⌜ r ≡ onToken awaited innermost full t ⌝ }
+fn awaited_number(awaited: Awaited) -> usize
+    ensures { λ r. ⌜ r ≡ awaitedNumber awaited ⌝ }
 {
     match awaited {
-        Awaited::Nothing => settle(innermost, t),
-        Awaited::Value(line) => after_entry(line, full, t),
-        Awaited::Multiline(line) => after_hint(line, t),
+        Awaited::Nothing => 0,
+        Awaited::Value(_) => 1,
+        Awaited::Multiline(_) => 2,
     }
 }
 
-fn on_end(awaited: Awaited) -> Ruling
-    ensures { λ r. ⌜ r ≡ onEnd awaited ⌝ }
+fn awaited_line(awaited: Awaited) -> usize
+    ensures { λ r. ⌜ r ≡ awaitedLine awaited ⌝ }
 {
     match awaited {
-        Awaited::Nothing => Ruling::End,
-        Awaited::Value(line) => no_value(line, Kept::End),
-        Awaited::Multiline(line) => refuse(4, line, Awaited::Nothing),
+        Awaited::Nothing => 0,
+        Awaited::Value(line) => line,
+        Awaited::Multiline(line) => line,
+    }
+}
+
+// The ruling on a token, and on what would be kept of it.
+fn made(v: Judged, awaited: Awaited, t: Token, kept: Kept) -> Ruling
+    ensures { λ r. ⌜ r ≡ madeBy v awaited t kept ⌝ }
+{
+    let line = t.line_number();
+    let entry = awaited_line(awaited);
+    match v {
+        Judged::GivesOn => gives_on(t, awaited, Change::Keep),
+        Judged::NoValue => no_value(entry, kept),
+        Judged::Opens => gives_on(t, Awaited::Nothing, Change::Open),
+        Judged::Closes => gives_on(t, Awaited::Nothing, Change::Close),
+        Judged::Map => gives_on(t, Awaited::Value(line), Change::Fix(Sort::Map)),
+        Judged::List => gives_on(t, Awaited::Value(line), Change::Fix(Sort::List)),
+        Judged::Hint => gives_on(t, Awaited::Multiline(entry), Change::Keep),
+        Judged::Value => gives_on(t, Awaited::Nothing, Change::Keep),
+        Judged::Passes => Ruling::End,
+        Judged::Refuses(n) => refuse(n, line, Awaited::Nothing),
+        Judged::RefusesEntry => refuse(4, entry, Awaited::Nothing),
+        Judged::End => Ruling::End,
+        Judged::Unfit => Ruling::Unfit,
     }
 }
 
@@ -239,9 +185,17 @@ fn on_end(awaited: Awaited) -> Ruling
 pub fn rule(awaited: Awaited, innermost: Innermost, full: bool, came: tokenizer::Answer) -> Ruling
     ensures { λ r. ⌜ r ≡ rulingOf awaited innermost full came ⌝ }
 {
+    let a = awaited_number(awaited);
+    let s = sort_number(innermost);
     match came {
-        tokenizer::Answer::End => on_end(awaited),
-        tokenizer::Answer::Token(t) => on_token(awaited, innermost, full, t),
+        tokenizer::Answer::End => {
+            let v = judge(0, a, s, full);
+            made(v, awaited, Token::NoValue(0), Kept::End)
+        }
+        tokenizer::Answer::Token(t) => {
+            let v = judge(kind(t), a, s, full);
+            made(v, awaited, t, Kept::Token(t))
+        }
         tokenizer::Answer::Refused(number, line) => refuse(number, line, awaited),
     }
 }

@@ -2,3 +2,9 @@ pub mod Tests
 pub mod Sorts
 pub mod ParserRulings
 pub mod ParserSteps
+pub mod Back
+pub mod Agreeing
+pub mod Putting
+pub mod Coming
+pub mod Going
+pub mod Walking

@@ -34,7 +34,7 @@ use Rattle.parser_words.specs.ParserWords.{
 use Rattle.tokenizer_words.proofs.Pasting.{written-more, pasted-next, pasted-after}
 use Rattle.tokenizer_words.proofs.Slots.{words-137}
 
-sections-length : (n : ℕ) (w : List ℕ) → length (sectionsIn n w) ≡ n
+pub sections-length : (n : ℕ) (w : List ℕ) → length (sectionsIn n w) ≡ n
 unfolding sectionsIn
 sections-length zero w = refl
 sections-length (suc n) w = ap suc (sections-length n (drop 1 w))
@@ -58,12 +58,12 @@ pub sorts-more : (n : ℕ) (w : List ℕ) (i : ℕ) → areSorts (suc n) (drop i
 unfolding areSorts
 sorts-more n w i = rw (getD-drop i w 0 0, drop-drop 1 i w, add-zero)
 
-sort-words-length : (l : List Section) → length (sortWords l) ≡ length l
+pub sort-words-length : (l : List Section) → length (sortWords l) ≡ length l
 unfolding sortWords
 sort-words-length [] = refl
 sort-words-length (s ∷ l) = ap suc (sort-words-length l)
 
-sort-word-at : (l : List Section) (i : ℕ) (z : Section) → i < length l → getD (sortWords l) i 0 ≡ sortWord (getD l i z .sort)
+pub sort-word-at : (l : List Section) (i : ℕ) (z : Section) → i < length l → getD (sortWords l) i 0 ≡ sortWord (getD l i z .sort)
 unfolding sortWords
 sort-word-at [] i z h = omega arith
 sort-word-at (s ∷ l) zero z h = refl
@@ -99,7 +99,7 @@ pub middle-words : (a : Awaited) (k : Kept) (n : ℕ)
     (f 0 ∷ f 1 ∷ g 0 ∷ g 1 ∷ g 2 ∷ g 3 ∷ g 4 ∷ g 5 ∷ g 6 ∷ n ∷ []) ≡ awaitedWords a ++ keptWords k ++ (n ∷ [])
 middle-words a k n = awaited-words a _ ∙ rw (append-assoc, ← kept-words k (n ∷ []))
 
-middle-11 : (s : State) → length (middleWords s) ≡ 11
+pub middle-11 : (s : State) → length (middleWords s) ≡ 11
 unfolding middleWords
 middle-11 s = rw (← middle-words (s .awaited) (s .kept) (s .count))
 

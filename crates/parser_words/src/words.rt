@@ -1,11 +1,4 @@
 // A parser's state in the words of a lent slice, in the order of specs/ParserWords.
-use tokenizer_words::bare_row;
-use tokenizer_words::flag_of;
-use tokenizer_words::is_readable;
-use tokenizer_words::load;
-use tokenizer_words::paste;
-use tokenizer_words::store;
-use tokenizer_words::token_row;
 use parser::Section;
 use parser::State;
 use parser_rules::Awaited;
@@ -13,6 +6,13 @@ use parser_rules::Kept;
 use parser_rules::Sort;
 use text::Part;
 use tokenizer::Token;
+use tokenizer_words::bare_row;
+use tokenizer_words::flag_of;
+use tokenizer_words::is_readable;
+use tokenizer_words::load;
+use tokenizer_words::paste;
+use tokenizer_words::store;
+use tokenizer_words::token_row;
 ghost use mathlib.Core.Path.{_≡_};
 ghost use mathlib.Core.List.{_++_};
 ghost use Prim.Native.Nat.{_≤_};
@@ -170,7 +170,7 @@ pub(crate) fn load_parser(w: &[usize]) -> State
     }
 }
 
-fn sort_word(s: Sort) -> usize
+pub(crate) fn sort_word(s: Sort) -> usize
     ensures { λ r. ⌜ r ≡ sortWord s ⌝ }
 {
     match s {

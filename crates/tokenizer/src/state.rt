@@ -1,12 +1,12 @@
 // The state by value, and the step over it.
 use crate::token::Token;
+use text::Dropped;
+use text::Part;
 use tokenizer_rules::Change;
 use tokenizer_rules::Marks;
 use tokenizer_rules::Plan;
 use tokenizer_rules::Says;
 use tokenizer_rules::plan_at;
-use text::Dropped;
-use text::Part;
 ghost use mathlib.Core.Path.{_≡_};
 ghost use mathlib.Core.Bool.{true, cond};
 ghost use Prim.Native.Nat.{_+_, _-_, _<_, _≤_, _^_};
@@ -61,13 +61,13 @@ pub struct Step {
 }
 
 // Whether p neither ends before it starts nor ends past n bytes.
-fn part_fits(p: Part, n: usize) -> bool
+pub(crate) fn part_fits(p: Part, n: usize) -> bool
     ensures { λ r. ⌜ r ≡ fitPart n p ⌝ }
 {
     p.start <= p.end && p.end <= n
 }
 
-fn held_fits(held: Held, n: usize) -> bool
+pub(crate) fn held_fits(held: Held, n: usize) -> bool
     ensures { λ r. ⌜ r ≡ fitHeld n held ⌝ }
 {
     match held {
@@ -77,12 +77,12 @@ fn held_fits(held: Held, n: usize) -> bool
 }
 
 // Rule 1: the indentation of a step, and how many bytes of it stand at the place.
-struct Indentation {
-    part: Part,
-    size: usize,
+pub(crate) struct Indentation {
+    pub(crate) part: Part,
+    pub(crate) size: usize,
 }
 
-fn indent_at(held: Held, place: usize, rest: &[u8]) -> Indentation
+pub(crate) fn indent_at(held: Held, place: usize, rest: &[u8]) -> Indentation
     requires { ⌜ place + length (now rest) < 2 ^ 64 ⌝ }
     ensures { λ r. ⌜ r .part ≡ indentOf held place (now (rest .entry)) ⌝ }
     ensures { λ r. ⌜ r .size ≡ sizeOf held (now (rest .entry)) ⌝ }
@@ -138,7 +138,7 @@ fn answered(says: Says, line: usize, place: usize, indent: Part) -> Answer
     }
 }
 
-fn held_after(change: Change, indent: Part) -> Held
+pub(crate) fn held_after(change: Change, indent: Part) -> Held
     ensures { λ r. ⌜ r ≡ heldAfter change indent ⌝ }
 {
     match change {
@@ -155,7 +155,7 @@ fn one_less(depth: usize) -> usize
     if 0 < depth { depth - 1 } else { 0 }
 }
 
-fn depth_after(change: Change, depth: usize) -> usize
+pub(crate) fn depth_after(change: Change, depth: usize) -> usize
     requires { ⌜ depth ≤ 64 ⌝ }
     ensures { λ r. ⌜ r ≡ depthAfter change depth ⌝ }
 {
@@ -190,7 +190,7 @@ fn innermost(depth: usize, last: Part) -> Part
 }
 
 // The plan of a step at the place: inner is the innermost open indentation, and indent this step's, k bytes of it standing there.
-fn planned(
+pub(crate) fn planned(
     doc: &[u8],
     place: usize,
     marks: Marks,

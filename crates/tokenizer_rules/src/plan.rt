@@ -1,4 +1,10 @@
 // What one step does, counted from its place: the plan knows neither places nor lines.
+use text::Dropped;
+use text::First;
+use text::Part;
+use text::first_of;
+use text::line_end;
+use text::newline_size;
 use tokenizer_scans::Relation;
 use tokenizer_scans::Text;
 use tokenizer_scans::begins_hint;
@@ -8,15 +14,11 @@ use tokenizer_scans::multiline_len;
 use tokenizer_scans::plain_len;
 use tokenizer_scans::relate;
 use tokenizer_scans::text_len;
-use text::Dropped;
-use text::First;
-use text::Part;
-use text::first_of;
-use text::line_end;
-use text::newline_size;
 ghost use mathlib.Core.Path.{_≡_};
 ghost use Prim.Native.Nat.{_+_, _<_, _^_};
-ghost use mathlib.Core.Bool.{not, _&&_};
+ghost use mathlib.Core.Bool.{cond, not, _&&_};
+ghost use Rattle.tokenizer_scans.specs.Scans.{relationOf};
+ghost use Rattle.tokenizer_scans.specs.declared.readers.Relation.the-variants.{Equal};
 ghost use lib.Dec.{eqb};
 ghost use lib.ListN.{length};
 ghost use Rattle.tokenizer_rules.specs.Plan.{
@@ -31,6 +33,7 @@ ghost use Rattle.tokenizer_rules.specs.Plan.{
   planEntry,
   planMultiline,
   planOpen,
+  cleared,
   planOutdent,
   planIndented,
   planAt,
@@ -300,8 +303,52 @@ fn entry(m: Marks, k: usize, b: u8, w: &[u8]) -> Plan
     consume_key(m, k, w)
 }
 
-// Rule 5, with the indentation mark.
-fn indented(
+// How the indentation lies, where its mark is set; else as if it were equal.
+fn lies(m: Marks, inner: &[u8], indent: &[u8]) -> Relation
+    ensures { λ r. ⌜ r ≡ cond (m .indent) (relationOf (now (inner .entry)) (now (indent .entry))) Equal ⌝ }
+{
+    if m.indent {
+        relate(inner, indent)
+    } else {
+        Relation::Equal
+    }
+}
+
+// The marks with which an entry is read: with the indentation mark, it and the multiline mark are cleared.
+fn entry_marks(m: Marks) -> Marks
+    ensures { λ r. ⌜ r ≡ cond (m .indent) (cleared m) m ⌝ }
+{
+    if m.indent {
+        Marks {
+            indent: false,
+            value: m.value,
+            multiline: false,
+        }
+    } else {
+        m
+    }
+}
+
+// Rule 5, deeper: a multiline value, or a section.
+fn deeper(m: Marks, depth: usize, indent: &[u8], rest: &[u8], k: usize, w: &[u8]) -> Plan
+    requires { ⌜ k + length (now w) < 2 ^ 64 ⌝ }
+    ensures { λ r. ⌜ r ≡ cond (m .multiline) (planMultiline (cleared m) (now (indent .entry)) (now (rest .entry))) (planOpen (cleared m) depth k (now (w .entry))) ⌝ }
+{
+    let marks = Marks {
+        indent: false,
+        value: m.value,
+        multiline: false,
+    };
+    if m.multiline {
+        consume_multiline(marks, indent, rest)
+    } else {
+        open(marks, depth, k, w)
+    }
+}
+
+// Rules 5 and 6. An entry is read from one place, so that its code is made once; each plan is named before it is returned, so that
+// a call which stays a call does not keep the others in memory.
+fn content(
     m: Marks,
     depth: usize,
     inner: &[u8],
@@ -313,23 +360,18 @@ fn indented(
 ) -> Plan
     requires { ⌜ k + length (now w) < 2 ^ 64 ⌝ }
     requires { ⌜ 0 < length (now w) ⌝ }
-    ensures { λ r. ⌜ r ≡ planIndented m depth (now (inner .entry)) (now (indent .entry)) (now (rest .entry)) k b (now (w .entry)) ⌝ }
+    ensures { λ r. ⌜ r ≡ cond (m .indent) (planIndented m depth (now (inner .entry)) (now (indent .entry)) (now (rest .entry)) k b (now (w .entry))) (planEntry m k b (now (w .entry))) ⌝ }
 {
-    let marks = Marks {
-        indent: false,
-        value: m.value,
-        multiline: false,
-    };
-    match relate(inner, indent) {
-        Relation::Equal => entry(marks, k, b, w),
-        Relation::Deeper => {
-            if m.multiline {
-                consume_multiline(marks, indent, rest)
-            } else {
-                open(marks, depth, k, w)
-            }
+    match lies(m, inner, indent) {
+        Relation::Equal => {
+            let p = entry(entry_marks(m), k, b, w);
+            p
         }
-        Relation::Other => outdent(marks, k),
+        Relation::Deeper => {
+            let p = deeper(m, depth, indent, rest, k, w);
+            p
+        }
+        Relation::Other => outdent(m, k),
     }
 }
 
@@ -351,8 +393,5 @@ pub fn plan_at(m: Marks, depth: usize, inner: &[u8], indent: &[u8], rest: &[u8],
     if is_comment(m, b) {
         return consume_comment(m, k, &w[1..]);
     }
-    if m.indent {
-        return indented(m, depth, inner, indent, rest, k, b, w);
-    }
-    entry(m, k, b, w)
+    content(m, depth, inner, indent, rest, k, b, w)
 }

@@ -1,6 +1,6 @@
 -- A tokenizer's state in the words of a lent slice: place, line, the three marks (0 or 1), whether an indentation is held (0 or
 -- 1) with its start and end, the number of open indentations, and the start and end of each of the 64 slots. 137 words.
-use Prim.Native.Nat.{ℕ, zero, suc, _+_}
+use Prim.Native.Nat.{ℕ, zero, suc, _+_, _*_}
 use mathlib.Core.List.{List, [], _∷_, _++_}
 use mathlib.Core.Bool.{Bool, true, false, cond, _&&_}
 use lib.Dec.{eqb, leb}
@@ -9,7 +9,12 @@ use Rattle.text.specs.declared.bytes.Part.{Part}
 use Rattle.tokenizer.specs.declared.state.Held.{Held}
 use Rattle.tokenizer.specs.declared.state.Held.the-variants.{Nothing, At}
 use Rattle.tokenizer.specs.declared.state.State.{State}
-use Rattle.tokenizer.specs.Step.{fresh}
+use Rattle.tokenizer.specs.Step.{stepOf, fresh}
+use Rattle.tokenizer.specs.Lists.{isEnd}
+use Rattle.tokenizer.specs.declared.front.Front.{Front}
+use Rattle.tokenizer.specs.declared.front.Advanced.{Advanced}
+use Rattle.tokenizer_rules.specs.declared.plan.Change.{Change}
+use Rattle.tokenizer_rules.specs.declared.plan.Change.the-variants.{Keep, Open, Close, Hold}
 
 -- the words w with those of s written over them from the nth on
 unfoldable pub pasted : List ℕ → ℕ → List ℕ → List ℕ
@@ -36,6 +41,12 @@ unfoldable pub frontWords : State → List ℕ
 frontWords s =
     s .place ∷ s .line ∷ flag (s .marks .indent) ∷ flag (s .marks .value) ∷ flag (s .marks .multiline)
     ∷ (heldWords (s .held) ++ (s .depth ∷ []))
+
+-- the same words of a front
+unfoldable pub frontWordsBy : Front → List ℕ
+frontWordsBy f =
+    f .place ∷ f .line ∷ flag (f .marks .indent) ∷ flag (f .marks .value) ∷ flag (f .marks .multiline)
+    ∷ (heldWords (f .held) ++ (f .depth ∷ []))
 
 -- the words of a state
 unfoldable pub wordsOf : State → List ℕ
@@ -68,6 +79,21 @@ loadedFrom w = cond (leb 137 (length w)) (stateIn w) fresh
 -- the words are a state's: there are 137, and what is to be 0 or 1 is; else they are an unfit state, 15
 unfoldable pub readable : List ℕ → Bool
 readable w = leb 137 (length w) && (leb (getD w 2 0) 1 && (leb (getD w 3 0) 1 && (leb (getD w 4 0) 1 && leb (getD w 5 0) 1)))
+
+-- the words with an indentation that opens in its slot, n being open
+unfoldable pub slotIn : Change → Part → ℕ → List ℕ → List ℕ
+slotIn Keep i n w = w
+slotIn Open i n w = pastedIn (i .start ∷ i .end ∷ []) (9 + 2 * n) w
+slotIn Close i n w = w
+slotIn Hold i n w = w
+
+-- the words with what a step comes to
+unfoldable pub committed : Advanced → List ℕ → List ℕ
+committed m w = slotIn (m .change) (m .indent) (getD w 8 0) (pastedIn (frontWordsBy (m .front)) 0 w)
+
+-- the words after one step of the state in them: unchanged where it is End
+unfoldable pub steppedIn : List ℕ → List ℕ → List ℕ
+steppedIn d w = let t = stepOf d (stateIn w) in cond (isEnd (t .answer)) w (wordsOf (t .state) ++ drop 137 w)
 
 -- the words with the fresh state at their front
 abbrev pub freshIn : List ℕ → List ℕ

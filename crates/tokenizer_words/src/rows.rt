@@ -1,19 +1,22 @@
 // The rows of answers, and the batch: steps by value over one state, loaded once and stored once.
+use crate::steps::step_in;
 use crate::words::is_readable;
 use crate::words::load;
 use crate::words::paste;
 use crate::words::store;
 use text::Part;
-use tokenizer::Answer;
+use tokenizer::Said;
 use tokenizer::State;
-use tokenizer::Step;
 use tokenizer::Token;
 ghost use mathlib.Core.Path.{_≡_};
-ghost use Prim.Native.Nat.{_/_, _^_, _<_};
-ghost use lib.ListN.{length};
-ghost use Rattle.tokenizer.specs.Token.{bare, worded, tokenValues, valuesOf};
-ghost use Rattle.tokenizer.specs.Lists.{isEnd};
-ghost use Rattle.tokenizer_words.specs.Rows.{rowOf, rowsIn, taken, tokenizing, batchOf};
+ghost use mathlib.Core.Bool.{true};
+ghost use mathlib.Core.List.{_++_};
+ghost use Prim.Native.Nat.{_/_, _≤_};
+ghost use lib.ListN.{length, drop};
+ghost use Rattle.tokenizer.specs.Step.{fit};
+ghost use Rattle.tokenizer_words.specs.Words.{wordsOf, stateIn};
+ghost use Rattle.tokenizer.specs.Token.{bare, worded, tokenValues};
+ghost use Rattle.tokenizer_words.specs.Rows.{rowOf, rowBy, rowsIn, taken, tokenizing, batchOf};
 
 // The refusals before the first step: 2^63, which is above any count of rows, and 12 or 15.
 pub const TOO_LONG: usize = 0x8000_0000_0000_000C;
@@ -53,57 +56,35 @@ pub fn token_row(t: Token) -> [usize; 7]
     }
 }
 
-// The row of an answer. No step refuses by a number that is too large for it.
-fn row(a: Answer) -> [usize; 7]
-    requires { ⌜ valuesOf a .number < 2 ^ 64 ⌝ }
-    ensures { λ r. ⌜ r ≡ rowOf (valuesOf a) ⌝ }
+// The row of what a step says.
+pub fn said_row(s: Said) -> [usize; 7]
+    ensures { λ r. ⌜ r ≡ rowBy s ⌝ }
 {
-    match a {
-        Answer::End => bare_row(0, 0),
-        Answer::Token(t) => token_row(t),
-        Answer::Refused(n, line) => bare_row(256 + n, line),
-    }
+    [s.number, s.line, s.start, s.end, s.from, s.to, 0]
 }
 
-fn is_end(a: Answer) -> bool
-    ensures { λ r. ⌜ r ≡ isEnd a ⌝ }
-{
-    match a {
-        Answer::End => true,
-        Answer::Token(_) => false,
-        Answer::Refused(_, _) => false,
-    }
-}
-
-// How many answers were taken, and the state after them.
-struct Done {
-    count: usize,
-    state: State,
-}
-
-// Takes answers until End comes or no room is left for a row. The state that comes with End is not taken.
-fn take_rows(doc: &[u8], s: State, rows: &mut [usize]) -> Done
-    ensures { λ r. ⌜ r .count ≡ length (taken (tokenizing (now (doc .entry))) (length (now (rows .entry)) / 7) s .answers) ⌝ }
-    ensures { λ r. ⌜ r .state ≡ taken (tokenizing (now (doc .entry))) (length (now (rows .entry)) / 7) s .state ⌝ }
-    ensures { λ r. ⌜ now (rows .exit) ≡ rowsIn (taken (tokenizing (now (doc .entry))) (length (now (rows .entry)) / 7) s .answers) (now (rows .entry)) ⌝ }
+// Takes answers until End comes or no room is left for a row: how many. The state stands in the words, and stays there.
+fn take_rows(doc: &[u8], w: &mut [usize], rows: &mut [usize]) -> usize
+    requires { ⌜ length (now doc) ≤ 16777216 ⌝ }
+    requires { ⌜ 137 ≤ length (now w) ⌝ }
+    requires { ⌜ now w ≡ wordsOf (stateIn (now w)) ++ drop 137 (now w) ⌝ }
+    requires { ⌜ fit (length (now doc)) (stateIn (now w)) ≡ true ⌝ }
+    ensures { λ r. ⌜ r ≡ length (taken (tokenizing (now (doc .entry))) (length (now (rows .entry)) / 7) (stateIn (now (w .entry))) .answers) ⌝ }
+    ensures { λ r. ⌜ now (w .exit) ≡ wordsOf (taken (tokenizing (now (doc .entry))) (length (now (rows .entry)) / 7) (stateIn (now (w .entry))) .state) ++ drop 137 (now (w .entry)) ⌝ }
+    ensures { λ r. ⌜ now (rows .exit) ≡ rowsIn (taken (tokenizing (now (doc .entry))) (length (now (rows .entry)) / 7) (stateIn (now (w .entry))) .answers) (now (rows .entry)) ⌝ }
 {
     let room = rows.len() / 7;
-    let mut state = s;
     let mut n = 0;
     while n < room {
-        let Step {
-            answer,
-            state: next,
-        } = state.step(doc);
-        if is_end(answer) {
-            return Done { count: n, state };
+        let s = step_in(doc, w);
+        if s.number == 0 {
+            return n;
         }
-        let r = row(answer);
+        let r = said_row(s);
         paste(&r, 7 * n, rows);
-        state = next;
         n += 1;
     }
-    Done { count: n, state }
+    n
 }
 
 // Takes answers until End comes or no room is left for a row: how many; or, with nothing written, a refusal, 12 before 15.
@@ -122,8 +103,6 @@ pub fn tokenize(doc: &[u8], state: &mut [usize], rows: &mut [usize]) -> usize
     if !s.fits(doc.len()) {
         return UNFIT;
     }
-    let t = take_rows(doc, s, rows);
-    let after = t.state;
-    store(after, state);
-    t.count
+    store(s, state);
+    take_rows(doc, state, rows)
 }

@@ -1,8 +1,8 @@
 // A state in the words of a lent slice, in the order of specs/Words.
-use tokenizer_rules::Marks;
 use text::Part;
 use tokenizer::Held;
 use tokenizer::State;
+use tokenizer_rules::Marks;
 ghost use mathlib.Core.Path.{_≡_};
 ghost use Prim.Native.Nat.{_≤_};
 ghost use lib.Dec.{leb};
@@ -32,7 +32,7 @@ pub fn is_readable(w: &[usize]) -> bool
     (w[2] <= 1) & ((w[3] <= 1) & ((w[4] <= 1) & (w[5] <= 1)))
 }
 
-fn held_in(w: &[usize]) -> Held
+pub(crate) fn held_in(w: &[usize]) -> Held
     requires { ⌜ 137 ≤ length (now w) ⌝ }
     ensures { λ r. ⌜ r ≡ stateIn (now (w .entry)) .held ⌝ }
 {
@@ -93,7 +93,7 @@ pub fn flag_of(b: bool) -> usize
     if b { 1 } else { 0 }
 }
 
-fn held_words(h: Held) -> [usize; 3]
+pub(crate) fn held_words(h: Held) -> [usize; 3]
     ensures { λ r. ⌜ r ≡ heldWords h ⌝ }
 {
     match h {

@@ -22,7 +22,7 @@ pub struct Tokenizer<'tok>(Reading<'tok, TokenizerState>);
 impl<'tok> Iterator for Tokenizer<'tok> {
     type Item = Result<Token<'tok>, SyntaxError>;
 
-    #[inline]
+    #[inline(always)]
     fn next(&mut self) -> Option<Self::Item> {
         self.0.next()
     }
@@ -45,7 +45,7 @@ pub struct Parser<'tok>(Reading<'tok, ParserState>);
 impl<'tok> Iterator for Parser<'tok> {
     type Item = Result<Token<'tok>, SyntaxError>;
 
-    #[inline]
+    #[inline(always)]
     fn next(&mut self) -> Option<Self::Item> {
         self.0.next()
     }

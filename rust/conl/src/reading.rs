@@ -23,7 +23,7 @@ impl<'tok, S: State> Reading<'tok, S> {
         }
     }
 
-    #[inline]
+    #[inline(always)]
     pub fn next(&mut self) -> Option<Result<Token<'tok>, SyntaxError>> {
         let row = self.rows.next()?;
         let document = self.document;

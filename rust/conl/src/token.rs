@@ -69,7 +69,7 @@ impl<'tok> Token<'tok> {
 
     /// The token of a row, or nothing where the row is a refusal's. `text` gives the part of the
     /// document from a place to another.
-    #[inline]
+    #[inline(always)]
     pub(crate) fn of_row(row: &Row, text: impl Fn(usize, usize) -> &'tok str) -> Option<Self> {
         let lno = row.line;
         let own = || text(row.start, row.end);

@@ -46,7 +46,7 @@ impl Row {
 }
 
 impl From<[usize; WORDS]> for Row {
-    #[inline]
+    #[inline(always)]
     fn from([number, line, start, end, from, to, _]: [usize; WORDS]) -> Self {
         Row {
             number,
@@ -95,6 +95,8 @@ impl<'doc, S: State, const ROOM: usize> Rows<'doc, S, ROOM> {
         }
     }
 
+    #[cold]
+    #[inline(never)]
     fn fetch(&mut self) {
         let rows = self.fetched.as_flattened_mut();
         let written = self.state.advance(self.document, rows);
@@ -112,7 +114,7 @@ impl<'doc, S: State, const ROOM: usize> Rows<'doc, S, ROOM> {
 impl<S: State, const ROOM: usize> Iterator for Rows<'_, S, ROOM> {
     type Item = Row;
 
-    #[inline]
+    #[inline(always)]
     fn next(&mut self) -> Option<Row> {
         if self.unread.is_empty() && !self.ended {
             self.fetch();

@@ -1,83 +1,115 @@
--- Invariant: the rows of the answers taken so far stand in the words (proofs/Taking). The measure is the room left for rows.
 use Prim.Native.Nat.{_-_}
 use mathlib.Core.Path.{_≡_, refl, sym, ap, _∙_}
 use native.Mathlib.Omega.{arith}
+use lib.Dec.{eqb}
 use lib.ListN.{length}
-use Rattle.tokenizer.specs.Lists.{isEnd}
-use Rattle.tokenizer.proofs.Numbers.{number-le}
-use Rattle.tokenizer.proofs.Valued.{values-injective}
-use Rattle.tokenizer_words.specs.Rows.{tokenizing}
-use Rattle.tokenizer_words.proofs.Taking.{Turn, start, next, at-end, full}
 use borrow.Author.Needs.{needs}
+use borrow.Author.Tests.{eq-eqb, ne-eqb}
+use Rattle.tokenizer.specs.declared.front.Said.{Said}
+use Rattle.tokenizer.specs.Lists.{isEnd}
+use Rattle.tokenizer.specs.Step.{stepOf}
+use Rattle.tokenizer_words.specs.Words.{stateIn}
+use Rattle.tokenizer_words.proofs.Standing.{end-number}
+use Rattle.tokenizer_words.proofs.Walking.{Stands, begins, reads, ended, stays, filled, goes-on}
 use Rattle.tokenizer_words.proofs.rows.take_rows.Statement.{statement}
 use Rattle.tokenizer_words.proofs.rows.take_rows.Tie as tie
+use Rattle.tokenizer_words.proofs.rows.take_rows.Reads as own-reads
+use Rattle.tokenizer_words.proofs.rows.take_rows.Lts as lts
+use Rattle.tokenizer_words.proofs.rows.said_row.Reads as said-row-reads
+use Rattle.tokenizer_words.proofs.steps.step_in.Reads as step-in-reads
+use Rattle.tokenizer_words.proofs.words.paste.Reads as paste-reads
 
 abbrev Inv-loop : tie.InvT-loop
-Inv-loop doc rows₀ room state₀ n₀ rows state n = (length rows ≡ length rows₀) × Turn (tokenizing doc) rows₀ rows room n state₀ state
+Inv-loop doc w₀ rows₀ room n₀ w rows n = (length w ≡ length w₀) × ((length rows ≡ length rows₀) × Stands doc rows₀ rows room n w₀ w)
 
 abbrev μ-loop : tie.MeasureT-loop
-μ-loop doc rows₀ room state₀ n₀ rows state n = room - n
+μ-loop doc w₀ rows₀ room n₀ w rows n = room - n
 
--- what `is_end` tells is told of the rule's own answer
-tested : (c : tie.After-is-end Inv-loop μ-loop)
-    → let l = c .before .before .before .before in
-    c .is-end .result ≡ tokenizing (l .before .before .before .args .doc .now) .stops (l .loop .state)
-tested c = c .is-end .ensures ∙ ap isEnd (values-injective _ _ (c .before .before .step .ensures .0))
+-- what the number tells is told of the step's own answer
+tested : (c : tie.After-step-in Inv-loop μ-loop) → let l = c .before .before .before in
+    eqb (c .step-in .result .number) 0 ≡ isEnd (stepOf (l .before .before .before .before .args .doc .now) (stateIn (l .loop .w)) .answer)
+tested c = ap (λ (x : Said). eqb (x .number) 0) (c .step-in .ensures .0) ∙ end-number _
 
+-- src/rows.rt:78:5
 loop-holds : tie.Need-loop-holds Inv-loop μ-loop
-loop-holds c = (refl, start _ _ _ _)
+loop-holds c = let a = c .before .before .before in (refl, (refl, begins _ _ _ _ (a .pre .1 .1 .0) (a .pre .1 .1 .1)))
 
-step-requires : tie.Need-step-requires Inv-loop μ-loop
-step-requires c κs = search needs
+-- src/rows.rt:79:13
+step-in-requires : tie.Need-step-in-requires Inv-loop μ-loop
+step-in-requires c κs =
+    let l = c .before .before in
+    let a = l .before .before .before .before in
+    let v = l .loop .inv in
+    (a .pre .0, (omega (arith, a .pre .1 .0, v .0), rw (reads _ _ _ _ (v .1 .1)) (v .1 .1 .fits)))
 
-is-end-requires : tie.Need-is-end-requires Inv-loop μ-loop
-is-end-requires c κs = search needs
-
+-- src/rows.rt:81:13
 same-length : tie.Need-same-length Inv-loop μ-loop
-same-length c = c .before .before .before .before .before .loop .inv .0
+same-length c = let m = c .before .before .before .before in m .step-in .kept .1 .0 ∙ m .before .before .before .loop .inv .0
 
+-- src/rows.rt:81:13
+same-length-2 : tie.Need-same-length-2 Inv-loop μ-loop
+same-length-2 c = c .before .before .before .before .before .before .before .loop .inv .1 .0
+
+-- src/rows.rt:81:13
 returns : tie.Need-returns Inv-loop μ-loop
 returns c =
-    let l = c .before .before .before .before .before in
-    at-end _ _ _ _ (l .loop .inv .1) (sym (tested (c .before)) ∙ c .if1 .taken)
+    let m = c .before .before .before .before in
+    let v = m .before .before .before .loop .inv .1 .1 in
+    let e = sym (tested m) ∙ eq-eqb _ _ (c .if1 .taken) in
+    let r = ended _ _ _ _ v e in
+    (r .0, (stays _ _ _ _ v e (m .step-in .ensures .1) ∙ r .1 .0, r .1 .1))
 
-row-requires : tie.Need-row-requires Inv-loop μ-loop
-row-requires c κs =
-    let m = c .before .before .before in
-    let l = m .before .before in
-    omega (arith, ap (λ v. v .number) (m .step .ensures .0), number-le (l .before .before .before .args .doc .now) (l .loop .state))
+-- src/rows.rt:83:17
+said-row-requires : tie.Need-said-row-requires Inv-loop μ-loop
+said-row-requires c κs = search needs
 
+-- src/rows.rt:84:15
 slice-aggregate-paste : tie.Need-slice-aggregate-paste Inv-loop μ-loop
 slice-aggregate-paste c = search needs
 
+-- src/rows.rt:84:19
 mul-paste : tie.Need-mul-paste Inv-loop μ-loop
 mul-paste c = search needs
 
+-- src/rows.rt:84:9
 paste-requires : tie.Need-paste-requires Inv-loop μ-loop
 paste-requires c κs = search needs
 
+-- src/rows.rt:85:9
 add-n : tie.Need-add-n Inv-loop μ-loop
 add-n c = search needs
 
+-- src/rows.rt:78:5
 loop-less : tie.Need-loop-less Inv-loop μ-loop
 loop-less c = omega arith
 
+-- src/rows.rt:78:5
 loop-again : tie.Need-loop-again Inv-loop μ-loop
 loop-again c =
     let p = c .before .before in
     let r = p .before .before .before in
-    let m = r .before .before .before .before in
-    let l = m .before .before in
-    let e = sym (tested (r .before .before)) ∙ r .before .if1 .left in
-    let w = rw (r .row .ensures, m .step .ensures .0) at (p .paste .ensures) in
-    let h = m .before .loop-test .taken in
-    (p .paste .kept .1 .1 .0 ∙ l .loop .inv .0, next _ _ _ _ (l .loop .inv .1) h (omega (arith, h, l .loop .inv .0)) e w (m .step .ensures .1))
+    let m = c .before .before .before .before .before .before .before .before .before .before in
+    let l = m .before .before .before in
+    let a = l .before .before .before .before in
+    let v = l .loop .inv in
+    let e = sym (tested m) ∙ ne-eqb _ _ (r .before .if1 .left) in
+    let h = m .before .before .loop-test .taken in
+    let q = rw (r .said-row .ensures, m .step-in .ensures .0) at (p .paste .ensures) in (
+      m .step-in .kept .1 .0 ∙ v .0,
+      (p .paste .kept .1 .1 .0 ∙ v .1 .0, goes-on _ _ _ _ (v .1 .1) (a .pre .0) h (omega (arith, h, v .1 .0)) e (m .step-in .ensures .1) q),
+    )
 
-same-length-2 : tie.Need-same-length-2 Inv-loop μ-loop
-same-length-2 c = c .before .loop .inv .0
+-- src/rows.rt:67:1
+same-length-3 : tie.Need-same-length-3 Inv-loop μ-loop
+same-length-3 c = c .before .loop .inv .0
 
+-- src/rows.rt:67:1
+same-length-4 : tie.Need-same-length-4 Inv-loop μ-loop
+same-length-4 c = c .before .loop .inv .1 .0
+
+-- src/rows.rt:67:1
 returns-2 : tie.Need-returns-2 Inv-loop μ-loop
-returns-2 c = full _ _ _ _ (c .before .loop .inv .1) (c .loop-test .left)
+returns-2 c = filled _ _ _ _ (c .before .loop .inv .1 .1) (c .loop-test .left)
 
 pub take-rows-spec : {M : Type 1} → statement M
 take-rows-spec =
@@ -86,16 +118,17 @@ take-rows-spec =
     Inv-loop
     μ-loop
     loop-holds
-    step-requires
-    is-end-requires
+    step-in-requires
     same-length
+    same-length-2
     returns
-    row-requires
+    said-row-requires
     slice-aggregate-paste
     mul-paste
     paste-requires
     add-n
     loop-less
     loop-again
-    same-length-2
+    same-length-3
+    same-length-4
     returns-2)
