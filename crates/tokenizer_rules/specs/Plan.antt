@@ -69,6 +69,10 @@ planEnd m depth =
     (record { says = Outdent; pass = 0; lines = 0; marks = m; change = Close })
     (keeps End 0 m)
 
+-- Rule 4: the test, b being the first byte
+abbrev pub beginsComment : Marks → ℕ → Bool
+beginsComment m b = eqb b (byte ";") && not (m .indent && m .multiline)
+
 -- Rule 4: the comment; r is what stands after the `;`
 unfoldable pub planComment : Marks → ℕ → List ℕ → Plan
 planComment m k r = keeps (said (λ p. Comment (shiftedBy (k + 1) p)) (checkedOf Blanks (take (lineEnd r) r))) (k + 1 + lineEnd r) m
@@ -160,7 +164,7 @@ unfoldable pub planOn : Marks → ℕ → List ℕ → List ℕ → List ℕ →
 planOn m depth inner indent rest k [] = planEnd m depth
 planOn m depth inner indent rest k (b ∷ r) =
     cond (isBreak b) (planNewline m k (b ∷ r))
-    (cond (eqb b (byte ";") && not (m .indent && m .multiline)) (planComment m k r)
+    (cond (beginsComment m b) (planComment m k r)
     (cond (m .indent) (planIndented m depth inner indent rest k b (b ∷ r))
     (planEntry m k b (b ∷ r))))
 
