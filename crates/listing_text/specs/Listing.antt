@@ -15,7 +15,7 @@ use Rattle.listing_text.specs.Text.{decimal}
 
 -- the longest document that is listed, in bytes
 abbrev pub maxListed : ℕ
-maxListed = 65536
+maxListed = 65_536
 
 abbrev pub header : List ℕ
 header = ascii "line kind start end\n"

@@ -3,7 +3,7 @@ use Prim.Native.Nat.{ℕ}
 
 -- the longest document, in bytes
 abbrev pub maxDocument : ℕ
-maxDocument = 16777216
+maxDocument = 16_777_216
 
 -- the most sections that are open at once, the top level apart
 abbrev pub maxOpen : ℕ

@@ -30,8 +30,8 @@ pub data TokenList (d : List ℕ) : List Answer → Type 0 where
   over : maxDocument < length d → TokenList d (Refused tooLong 0 ∷ [])
   read : {as₁ : List Answer} {u : State} → length d ≤ maxDocument → Reads d fresh as₁ u → TokenList d as₁
 
--- Intermediate: the list, computed. tokenizer_claims, proofs/Claimed, shows that it is the one list that is read, and that the
--- steps given here suffice.
+-- Intermediate: the list, computed. tokenizer_claims, proofs/Claimed, shows that it is the one list that is read, and
+-- that the steps given here suffice.
 unfoldable pub run : ℕ → List ℕ → State → List Answer
 run zero d s = []
 run (suc n) d s =
