@@ -1,4 +1,5 @@
--- Claim 4, its second half: what unescaping writes or hands back of a valid text is valid UTF-8.
+-- Claim about the law: 4, its second half. What unescaping writes or hands back of a valid text is valid UTF-8.
+-- proofs/Valid proves it.
 use Prim.Native.Nat.{ℕ, _-_}
 use mathlib.Core.Path.{_≡_}
 use mathlib.Core.List.{List}
