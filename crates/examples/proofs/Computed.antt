@@ -1,11 +1,11 @@
 -- The rows marked P hold: each was computed from the rules in the crate of the rules.
 use Rattle.tokenizer.proofs.Examples as tokenizer
 use Rattle.parser.proofs.Examples as parser
-use Rattle.unescape_pieces.proofs.Examples as pieces
+use Rattle.unescape.proofs.Examples as unescape
 use Rattle.listing_text.proofs.Examples as rows
-use Rattle.examples.specs.Rows.{Rows}
+use Rattle.examples.specs.Examples.{Examples}
 
-pub computed : Rows
+pub computed : Examples
 computed = record {
   no-tokens = tokenizer.empty;
   no-answers = parser.empty;
@@ -17,10 +17,10 @@ computed = record {
   space-tokens = tokenizer.space-a;
   space-answers = parser.space-a;
   outdent-on-line-four = tokenizer.outdent-on-line-four;
-  last-scalar = pieces.last-scalar;
-  past-last = pieces.past-last;
-  nine-digits = pieces.nine-digits;
-  unclosed = pieces.unclosed;
-  extra = pieces.extra;
-  four-lines = pieces.four-lines;
+  last-scalar = unescape.last-scalar;
+  past-last = unescape.past-last;
+  nine-digits = unescape.nine-digits;
+  unclosed = unescape.unclosed;
+  extra = unescape.extra;
+  four-lines = unescape.four-lines;
 }

@@ -9,3 +9,4 @@ pub mod Scalars
 pub mod Trimmed
 pub mod Unicode
 pub mod Joins
+pub mod Examples

@@ -2,3 +2,4 @@ pub mod Related
 pub mod Quotes
 pub mod Pieces
 pub mod LinesOfPieces
+pub mod Examples

@@ -1,4 +1,4 @@
--- Document 01, 'Multiline value': the lines that a multiline value adds, counted piece by piece in its words. `lineCount`, by which
+-- Law: document 01, 'Tokenizer', on a multiline value: the lines that a multiline value adds, counted piece by piece in its words. `lineCount`, by which
 -- the rules go, is this count.
 use Prim.Native.Nat.{ℕ, suc}
 use mathlib.Core.Path.{_≡_}

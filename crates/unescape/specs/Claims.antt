@@ -7,7 +7,7 @@ use mathlib.Core.Bool.{true}
 use lib.ListN.{take, drop}
 use Rattle.text.specs.Utf8.{utf8}
 use Rattle.unescape_pieces.specs.Meaning.{Meaning, part, bytes, code, refused, meaning}
-use Rattle.unescape_pieces.specs.declared.words.Reading.{Reading}
+use Rattle.unescape_pieces.specs.declared.source.Style.{Style}
 
 -- the part of the text s, or the bytes, are UTF-8
 abbrev pub ValidIn : List ℕ → Meaning → Type 0
@@ -17,4 +17,4 @@ ValidIn s (code a e) = Unit {0}
 ValidIn s (refused n) = Unit {0}
 
 abbrev pub Valid : Type 0
-Valid = (r : Reading) (s indent : List ℕ) → utf8 s ≡ true → utf8 indent ≡ true → ValidIn s (meaning r s indent)
+Valid = (r : Style) (s indent : List ℕ) → utf8 s ≡ true → utf8 indent ≡ true → ValidIn s (meaning r s indent)

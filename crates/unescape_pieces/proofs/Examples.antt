@@ -7,6 +7,8 @@ use Rattle.text.specs.Ascii.{ascii}
 use Rattle.text.specs.Bytes.{isBreak, countWhile, startsWith}
 use Rattle.text.specs.Scalar.{isScalar, encoding}
 use Rattle.text.specs.Utf8.{within, leadOf, followed, charLen}
+use Rattle.tokenizer.specs.declared.token.Token.the-variants.{Comment, Value}
+use Rattle.unescape_pieces.specs.Source.{sourceOf}
 use Rattle.unescape_pieces.specs.Codes.{digitOf, digitsFrom, digits, afterPlus, codeOf, simpleOf}
 use Rattle.unescape_pieces.specs.Meaning.{
   Meaning,
@@ -15,7 +17,7 @@ use Rattle.unescape_pieces.specs.Meaning.{
   code,
   refused,
   quoted,
-  bare,
+  allLiteral,
   simplyQuoted,
   entryMeaning,
   isEmpty,
@@ -23,11 +25,12 @@ use Rattle.unescape_pieces.specs.Meaning.{
   laterLines,
   joinedLines,
   blockMeaning,
+  meaning,
 }
 
 -- what computing a meaning unfolds
-rules : List ℕ → Meaning
-unfolding isBreak countWhile startsWith isScalar encoding within leadOf followed charLen digitOf digitsFrom digits afterPlus codeOf simpleOf quoted bare simplyQuoted entryMeaning isEmpty linesIn laterLines joinedLines blockMeaning
+unfoldable pub rules : List ℕ → Meaning
+unfolding isBreak countWhile startsWith isScalar encoding within leadOf followed charLen digitOf digitsFrom digits afterPlus codeOf simpleOf quoted allLiteral simplyQuoted entryMeaning isEmpty linesIn laterLines joinedLines blockMeaning
 rules s = entryMeaning s
 
 -- `"\{0010FFFF}"` is the last scalar value
@@ -85,3 +88,17 @@ pub four-lines : blockMeaning (ascii "  ") (ascii "x\r\n   y\n \n  z")
     ≡ bytes (ascii "x\n y\n\nz")
 unfolding rules
 four-lines = refl
+
+-- `"\"\\\n\r\t"`: each of the five simple escapes
+pub simple-escapes : entryMeaning (ascii "\"\\\"\\\\\\n\\r\\t\"") ≡ bytes (ascii "\"\\\n\r\t")
+unfolding rules
+simple-escapes = refl
+
+-- a comment `"\n"` says what it is, a value LF
+pub comment-as-it-is : meaning (sourceOf (Comment 1 (record { start = 0; end = 4 })) .style) (ascii "\"\\n\"") [] ≡ part 0 4
+unfolding rules meaning sourceOf
+comment-as-it-is = refl
+
+pub value-unescaped : meaning (sourceOf (Value 1 (record { start = 0; end = 4 })) .style) (ascii "\"\\n\"") [] ≡ bytes (ascii "\n")
+unfolding rules meaning sourceOf
+value-unescaped = refl

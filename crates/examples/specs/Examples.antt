@@ -1,7 +1,8 @@
 -- Claim about the law: document 01, 'Layouts on the test strip': the rows marked P, as one statement, in its order.
 -- proofs/Computed gathers it from the crates where each row is computed.
 use mathlib.Core.Path.{_≡_}
-use mathlib.Core.List.{[], _∷_, _++_}
+use mathlib.Core.List.{List, [], _∷_, _++_}
+use lib.ListN.{length}
 use Rattle.text.specs.Ascii.{ascii}
 use Rattle.text.specs.declared.bytes.Part.{Part}
 use Rattle.tokenizer.specs.Lists.{tokens}
@@ -10,14 +11,18 @@ use Rattle.tokenizer.specs.declared.state.Answer.the-variants as came
 use Rattle.parser.specs.Lists.{parse}
 use Rattle.parser_rules.specs.declared.ruling.Answer.the-variants as answer
 use Rattle.listing_text.specs.Listing.{listingOf}
-use Rattle.unescape_pieces.specs.Meaning.{bytes, code, refused, entryMeaning, blockMeaning}
+use Rattle.unescape.specs.Unescape.{Unescaped, unescapeOf}
+use Rattle.unescape.specs.declared.Answer.the-variants.{Written, Refused}
 use Prim.Native.Nat.{ℕ}
 
 abbrev pub part : ℕ → ℕ → Part
 part a e = record { start = a; end = e }
 
--- `code` is refusal 8 with the part that it shows, `refused` another one
-pub record Rows : Type 0 where
+-- a value on line 1 that is a whole document, unescaped with six bytes of room, which are dots
+abbrev pub value : List ℕ → Unescaped
+value s = unescapeOf s (token.Value 1 (part 0 (length s))) (ascii "......")
+
+pub record Examples : Type 0 where
   -- empty: no answers
   pub no-tokens : tokens [] ≡ []
   pub no-answers : parse [] ≡ []
@@ -69,13 +74,13 @@ pub record Rows : Type 0 where
       ∷ came.Token (token.MultilineValue 3 (part 11 13) (part 13 14))
       ∷ came.Token (token.Outdent 4)
       ∷ []
-  -- `"\{0010FFFF}"` gives a scalar; `"\{00110000}"` and `"\{000000041}"` give 8
-  pub last-scalar : entryMeaning (ascii "\"\\{0010FFFF}\"") ≡ bytes (0xF4 ∷ 0x8F ∷ 0xBF ∷ 0xBF ∷ [])
-  pub past-last : entryMeaning (ascii "\"\\{00110000}\"") ≡ code 1 12
-  pub nine-digits : entryMeaning (ascii "\"\\{000000041}\"") ≡ code 1 13
+  -- `"\{0010FFFF}"` gives a scalar; `"\{00110000}"` and `"\{000000041}"` give 8, with the whole code as the part that it shows
+  pub last-scalar : value (ascii "\"\\{0010FFFF}\"") ≡ record { answer = Written 4; buffer = 0xF4 ∷ 0x8F ∷ 0xBF ∷ 0xBF ∷ ascii ".." }
+  pub past-last : value (ascii "\"\\{00110000}\"") ≡ record { answer = Refused 8 1 (part 1 12); buffer = ascii "......" }
+  pub nine-digits : value (ascii "\"\\{000000041}\"") ≡ record { answer = Refused 8 1 (part 1 13); buffer = ascii "......" }
   -- `"` gives 11; `"a"b` 10
-  pub unclosed : entryMeaning (ascii "\"") ≡ refused 11
-  pub extra : entryMeaning (ascii "\"a\"b") ≡ refused 10
+  pub unclosed : value (ascii "\"") ≡ record { answer = Refused 11 1 (part 0 0); buffer = ascii "......" }
+  pub extra : value (ascii "\"a\"b") ≡ record { answer = Refused 10 1 (part 0 0); buffer = ascii "......" }
   -- indentation of two spaces, `x` CR LF `   y` LF ` ` LF `  z`: `x` LF ` y` LF LF `z`
-  pub four-lines : blockMeaning (ascii "  ") (ascii "x\r\n   y\n \n  z")
-      ≡ bytes (ascii "x\n y\n\nz")
+  pub four-lines : unescapeOf (ascii "  x\r\n   y\n \n  z") (token.MultilineValue 1 (part 0 2) (part 2 15)) (ascii "........")
+      ≡ record { answer = Written 7; buffer = ascii "x\n y\n\nz." }
