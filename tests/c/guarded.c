@@ -38,8 +38,12 @@ static const struct reader readers[] = {
 
 static struct document document;
 
-/* How often each kind and each refusal was met, and how often words of no reading were gone on from. */
+/*
+ * How often each kind, each refusal and each kind of answer was met, and how often words that no
+ * reading need come to were gone on from.
+ */
 static size_t kinds[CONL_NO_VALUE + 1], refusals[CONL_UNFIT_STATE + 1], strays;
+static size_t texts[CONL_TEXT_REFUSED + 1], found[CONL_FOUND_REFUSED + 1];
 
 static bool is_kept(const struct words *words, size_t from)
 {
@@ -142,6 +146,7 @@ static void check_text(const size_t *row, size_t room, const size_t *answer)
         break;
     default: expect(false, "no such kind of answer");
     }
+    texts[answer[CONL_ANSWER_KIND]]++;
 }
 
 static void try_row(const size_t *from, bool fresh)
@@ -236,6 +241,7 @@ static void look_up(const uint8_t *wanted, size_t wanted_len)
     } else {
         expect(kind == CONL_FOUND_NOTHING && number + line + start + end == 0, "nothing has words");
     }
+    found[kind]++;
 }
 
 static void trim(enum function function, const uint8_t *text, size_t length)
@@ -257,7 +263,7 @@ static void try_limit(void)
     fill(&row, CONL_ROW_WORDS);
     row.before[CONL_ROW_NUMBER] = CONL_VALUE;
     fill(&answer, CONL_ANSWER_WORDS);
-    const struct lent texts[] = {BYTES(doc, sizeof doc), BYTES(row.before, CONL_ROW_WORDS * sizeof(size_t)),
+    const struct lent text[] = {BYTES(doc, sizeof doc), BYTES(row.before, CONL_ROW_WORDS * sizeof(size_t)),
                                  {out, 1, out}, WORDS(&answer)};
     const struct lent keys[] = {BYTES(doc, sizeof doc), BYTES(doc, 1), WORDS(&answer)};
     for (size_t i = 0; i < 2; i++) {
@@ -267,7 +273,7 @@ static void try_limit(void)
         expect(is_kept(&state, 0) && is_kept(&row, 0), "a refused call writes");
         refusals[CONL_TOO_LONG]++;
     }
-    expect(call(UNESCAPE, texts, 4) && answer.after[CONL_ANSWER_NUMBER] == CONL_TOO_LONG, "a long document is read");
+    expect(call(UNESCAPE, text, 4) && answer.after[CONL_ANSWER_NUMBER] == CONL_TOO_LONG, "a long document is read");
     expect(call(LOOK_UP, keys, 3) && answer.after[CONL_ANSWER_NUMBER] == CONL_TOO_LONG, "a long document is read");
 }
 
@@ -282,6 +288,8 @@ static void try_document(void)
     trim(TRIM_BLANKS, document.bytes + start, length);
     trim(TRIM_BREAKS, document.bytes + start, length);
     look_up(document.bytes + start, length < 3 ? length : 3);
+    look_up((const uint8_t *)"key", below(2) ? 3 : 0);
+    look_up((const uint8_t *)"a", 1);
     for (size_t i = 0; i < 2; i++) {
         make_fresh(readers + i, &state, below(MOST_WORDS));
         read_document(readers + i);
@@ -298,20 +306,15 @@ static void try_case(uint64_t number)
         try_document();
 }
 
-/* What was tried. False where something was never met, so that nothing was shown of it. */
-static bool report(void)
+/* Prints how often each was met. False where one never was, so that nothing was shown of it. */
+static bool report(const char *what, const size_t *met, size_t first, size_t last)
 {
-    bool all = strays > 0;
-    size_t calls = 0;
-    for (size_t i = 0; i < FUNCTIONS; i++)
-        calls += trial.calls[i];
-    printf("guarded: %zu calls, %zu of them on from words of no reading\n", calls, strays);
-    printf("guarded: kinds:");
-    for (size_t i = 1; i <= CONL_NO_VALUE; all = all && kinds[i] > 0, i++)
-        printf(" %zu: %zu%s", i, kinds[i], i < CONL_NO_VALUE ? "," : "\n");
-    printf("guarded: refusals:");
-    for (size_t i = 1; i <= CONL_UNFIT_STATE; all = all && refusals[i] > 0, i++)
-        printf(" %zu: %zu%s", i, refusals[i], i < CONL_UNFIT_STATE ? "," : "\n");
+    bool all = true;
+    printf("guarded: %s:", what);
+    for (size_t i = first; i <= last; i++) {
+        printf(" %zu: %zu%s", i, met[i], i < last ? "," : "\n");
+        all = all && met[i] > 0;
+    }
     if (!all)
         puts("guarded: something was never met");
     return all;
@@ -334,6 +337,11 @@ int main(int argc, char **argv)
     uint64_t cases = 0;
     while (time(NULL) < end || cases < FEWEST_CASES)
         try_case(cases++);
-    printf("guarded: %" PRIu64 " cases\n", cases);
-    return report() ? 0 : 1;
+    printf("guarded: %" PRIu64 " cases, %zu calls on from words that no reading need come to\n", cases, strays);
+    bool all = report("calls, in conl.h's order", trial.calls, VERSION, TRIM_BREAKS);
+    all = report("kinds", kinds, CONL_NEWLINE, CONL_NO_VALUE) && all;
+    all = report("refusals", refusals, CONL_INVALID_UTF8, CONL_UNFIT_STATE) && all;
+    all = report("answers of conl_unescape", texts, CONL_TEXT_PLAIN, CONL_TEXT_REFUSED) && all;
+    all = report("answers of conl_look_up", found, CONL_FOUND_NOTHING, CONL_FOUND_REFUSED) && all;
+    return all && strays > 0 ? 0 : 1;
 }
