@@ -14,14 +14,14 @@
 #include <stdlib.h>
 #include <string.h>
 
-enum status { REFUSED = 1, FAILED = 2 };
+enum status { DONE = 0, REFUSED = 1, FAILED = 2 };
 
 /* How many rows are fetched at a time. */
 enum { ROOM = 64 };
 
 struct layout {
     const char *name;
-    const uint8_t *bytes;
+    uint8_t *bytes;
     size_t length;
     uint8_t *out; /* as long as the layout: room for every text of it */
     size_t depth;
@@ -47,10 +47,10 @@ static const char *message(size_t number)
     }
 }
 
-static _Noreturn void fail(const char *what, const char *why)
+static enum status fail(const char *what, const char *why)
 {
     fprintf(stderr, "keys: %s: %s\n", what, why);
-    exit(FAILED);
+    return FAILED;
 }
 
 /* A text on one line: control characters become escapes, and a backslash what is given for it. */
@@ -72,73 +72,88 @@ static void print_text(FILE *file, const uint8_t *text, size_t length, const cha
     }
 }
 
-/* Ends with a refusal, which shows the layout from one place to another. */
-static _Noreturn void refuse(const struct layout *layout, size_t number, size_t line, size_t start,
-                             size_t end)
+/* Says a refusal, which shows the layout from one place to another. */
+static enum status refuse(const struct layout *layout, size_t number, size_t line, size_t start,
+                          size_t end)
 {
     fflush(stdout);
     fprintf(stderr, "keys: %s, line %zu: %s", layout->name, line, message(number));
     print_text(stderr, layout->bytes + start, end - start, "\\");
     putc('\n', stderr);
-    exit(REFUSED);
+    return REFUSED;
 }
 
-static void print_token(const struct layout *layout, const size_t *row, const char *what)
+static enum status print_token(const struct layout *layout, const size_t *row, const char *what)
 {
     size_t answer[CONL_ANSWER_WORDS];
     if (!conl_unescape(layout->bytes, layout->length, row, CONL_ROW_WORDS, layout->out,
                        layout->length, answer, CONL_ANSWER_WORDS))
-        fail("conl_unescape", "the row is no token's");
+        return fail("conl_unescape", "the row is not a token's");
 
     size_t start = answer[CONL_ANSWER_START], end = answer[CONL_ANSWER_END];
-    if (answer[CONL_ANSWER_SORT] == CONL_REFUSAL)
-        refuse(layout, answer[CONL_ANSWER_NUMBER], answer[CONL_ANSWER_LINE], start, end);
+    if (answer[CONL_ANSWER_KIND] == CONL_TEXT_REFUSED)
+        return refuse(layout, answer[CONL_ANSWER_NUMBER], answer[CONL_ANSWER_LINE], start, end);
 
-    bool written = answer[CONL_ANSWER_SORT] == CONL_WRITTEN;
+    bool written = answer[CONL_ANSWER_KIND] == CONL_TEXT_WRITTEN;
     printf("%zu %zu %s%s", row[CONL_ROW_LINE], layout->depth, what, start == end ? "" : " ");
     print_text(stdout, (written ? layout->out : layout->bytes) + start, end - start, "\\\\");
     putchar('\n');
+    return DONE;
 }
 
-static void print_row(struct layout *layout, const size_t *row)
+static enum status print_row(struct layout *layout, const size_t *row)
 {
     switch (row[CONL_ROW_NUMBER]) {
-    case CONL_INDENT: layout->depth++; break;
-    case CONL_OUTDENT: layout->depth--; break;
-    case CONL_MAP_KEY: print_token(layout, row, "key"); break;
-    case CONL_LIST_ITEM: printf("%zu %zu item\n", row[CONL_ROW_LINE], layout->depth); break;
+    case CONL_INDENT: layout->depth++; return DONE;
+    case CONL_OUTDENT: layout->depth--; return DONE;
+    case CONL_MAP_KEY: return print_token(layout, row, "key");
+    case CONL_LIST_ITEM: printf("%zu %zu item\n", row[CONL_ROW_LINE], layout->depth); return DONE;
     case CONL_VALUE:
-    case CONL_MULTILINE_VALUE: print_token(layout, row, "value"); break;
+    case CONL_MULTILINE_VALUE: return print_token(layout, row, "value");
     default:
-        if (row[CONL_ROW_NUMBER] >= CONL_REFUSED)
-            refuse(layout, row[CONL_ROW_NUMBER] - CONL_REFUSED, row[CONL_ROW_LINE], 0, 0);
+        if (row[CONL_ROW_NUMBER] < CONL_REFUSED)
+            return DONE;
+        return refuse(layout, row[CONL_ROW_NUMBER] - CONL_REFUSED, row[CONL_ROW_LINE], 0, 0);
     }
 }
 
-static void print_layout(struct layout *layout)
+static enum status print_layout(struct layout *layout)
 {
     static size_t state[CONL_PARSER_WORDS], rows[ROOM * CONL_ROW_WORDS];
     if (!conl_fresh_parser(state, CONL_PARSER_WORDS))
-        fail("conl_fresh_parser", "too few words");
+        return fail("conl_fresh_parser", "too few words");
 
     size_t count;
     do {
         count = conl_parse(layout->bytes, layout->length, state, CONL_PARSER_WORDS, rows,
                            ROOM * CONL_ROW_WORDS);
         if (count >= CONL_NO_STEP)
-            refuse(layout, count - CONL_NO_STEP, 0, 0, 0);
-        for (size_t i = 0; i < count; i++)
-            print_row(layout, rows + i * CONL_ROW_WORDS);
+            return refuse(layout, count - CONL_NO_STEP, 0, 0, 0);
+        for (size_t i = 0; i < count; i++) {
+            enum status status = print_row(layout, rows + i * CONL_ROW_WORDS);
+            if (status != DONE)
+                return status;
+        }
     } while (count == ROOM);
+    return DONE;
 }
 
-/* Zeroed memory. One byte more is asked for, since no slice may have a null pointer. */
-static uint8_t *memory(size_t length)
+/*
+ * A layout that is too long is read one byte too far, and so refused. No slice may have a null
+ * pointer: a buffer has a byte even where the layout has none.
+ */
+static enum status read_layout(struct layout *layout, FILE *file)
 {
-    uint8_t *bytes = calloc(length + 1, 1);
-    if (bytes == NULL)
-        fail("no memory", strerror(errno));
-    return bytes;
+    layout->bytes = malloc(CONL_MAX_DOCUMENT + 1);
+    if (layout->bytes == NULL)
+        return fail("no memory", strerror(errno));
+    layout->length = fread(layout->bytes, 1, CONL_MAX_DOCUMENT + 1, file);
+    if (ferror(file))
+        return fail(layout->name, strerror(errno));
+    layout->out = malloc(layout->length + 1);
+    if (layout->out == NULL)
+        return fail("no memory", strerror(errno));
+    return DONE;
 }
 
 int main(int argc, char **argv)
@@ -151,17 +166,15 @@ int main(int argc, char **argv)
     struct layout layout = {.name = argc == 2 ? argv[1] : "standard input"};
     FILE *file = argc == 2 ? fopen(argv[1], "rb") : stdin;
     if (file == NULL)
-        fail(layout.name, strerror(errno));
+        return fail(layout.name, strerror(errno));
 
-    /* A layout that is too long is read one byte too far, and so refused. */
-    uint8_t *bytes = memory(CONL_MAX_DOCUMENT + 1);
-    layout.length = fread(bytes, 1, CONL_MAX_DOCUMENT + 1, file);
-    if (ferror(file))
-        fail(layout.name, strerror(errno));
-    layout.bytes = bytes;
-    layout.out = memory(layout.length);
-    print_layout(&layout);
+    enum status status = read_layout(&layout, file);
+    if (status == DONE)
+        status = print_layout(&layout);
     if (fflush(stdout) != 0 || ferror(stdout))
-        fail("standard output", strerror(errno));
-    return 0;
+        status = fail("standard output", strerror(errno));
+    free(layout.out);
+    free(layout.bytes);
+    fclose(file);
+    return status;
 }

@@ -16,15 +16,15 @@ enum { STACK = 1 << 18, PAINT = 0xA5, MOST = 1 << 16, ROOM = 64 };
 
 static _Alignas(4096) uint8_t stack[STACK];
 static uint8_t layout[MOST], out[MOST];
-static size_t length, tokens[CONL_STATE_WORDS], parser[CONL_PARSER_WORDS];
+static size_t length, tokens[CONL_TOKENIZER_WORDS], parser[CONL_PARSER_WORDS];
 static size_t rows[ROOM * CONL_ROW_WORDS], answer[CONL_ANSWER_WORDS];
 
 static void *nothing(void *unused) { return unused; }
 
 static void *tokenize(void *unused)
 {
-    conl_fresh(tokens, CONL_STATE_WORDS);
-    while (conl_tokenize(layout, length, tokens, CONL_STATE_WORDS, rows, ROOM * CONL_ROW_WORDS) == ROOM)
+    conl_fresh_tokenizer(tokens, CONL_TOKENIZER_WORDS);
+    while (conl_tokenize(layout, length, tokens, CONL_TOKENIZER_WORDS, rows, ROOM * CONL_ROW_WORDS) == ROOM)
         continue;
     return unused;
 }
@@ -44,7 +44,8 @@ static void *unescape(void *unused)
     do {
         n = conl_parse(layout, length, parser, CONL_PARSER_WORDS, rows, ROOM * CONL_ROW_WORDS);
         for (size_t i = 0; i < n && i < ROOM; i++)
-            conl_unescape(layout, length, rows + i * CONL_ROW_WORDS, CONL_ROW_WORDS, out, MOST, answer, CONL_ANSWER_WORDS);
+            conl_unescape(layout, length, rows + i * CONL_ROW_WORDS, CONL_ROW_WORDS, out, MOST,
+                          answer, CONL_ANSWER_WORDS);
     } while (n == ROOM);
     return unused;
 }

@@ -15,7 +15,10 @@
  * from 1.
  *
  * Nothing more is asked of a caller: every call returns, whatever bytes and words the slices hold.
- * Nothing holds these declarations to crates/abi but the programs that use them.
+ *
+ * `tests/c/run` holds this header to the library: its declarations are compared with those of
+ * crates/abi, tests/c/header.c tries every function and every constant, and tests/c/guarded.c lends
+ * random words and documents between guard pages.
  */
 #ifndef CONL_H
 #define CONL_H
@@ -32,17 +35,28 @@
 extern "C" {
 #endif
 
+/*
+ * The version of this header, and the library's: raised when the words of a row, a state or an
+ * answer change, or what they stand for. Where the two differ, nothing below need be so.
+ */
+#define CONL_VERSION 1
+size_t conl_version(void);
+
 /* The most bytes of a document, and the most sections that may be open. */
 #define CONL_MAX_DOCUMENT 16777216
 #define CONL_MAX_OPEN 64
 
 /* How many words a tokenizer's state, a parser's state, a row and an answer have. */
-#define CONL_STATE_WORDS 137
+#define CONL_TOKENIZER_WORDS 137
 #define CONL_PARSER_WORDS 213
 #define CONL_ROW_WORDS 7
 #define CONL_ANSWER_WORDS 5
 
-/* The words of a row, which one step of a reading gives: each 0 where there is no such thing. */
+/*
+ * The words of a row, which one step of a reading gives: each 0 where there is no such thing. In a
+ * reading from the fresh state on, a start is at most its end, and an end at most the document's
+ * length. From any other words on, places are not bounded by the document: test them before use.
+ */
 enum conl_row_word {
     CONL_ROW_NUMBER,       /* an enum conl_kind, or CONL_REFUSED and an enum conl_refusal */
     CONL_ROW_LINE,         /* the line that the token starts on, or that is refused */
@@ -50,7 +64,7 @@ enum conl_row_word {
     CONL_ROW_END,          /* where it ends: where it starts, if it is empty */
     CONL_ROW_INDENT_START, /* where a multiline value's indentation starts */
     CONL_ROW_INDENT_END,   /* where it ends */
-    CONL_ROW_SPARE
+    CONL_ROW_SPARE         /* 0 */
 };
 
 /* What a row adds to a refusal's number. */
@@ -84,19 +98,19 @@ enum conl_refusal {
     CONL_EXTRA_CHARACTERS = 10, /* behind the closing quote */
     CONL_UNCLOSED_QUOTES = 11,
     CONL_TOO_LONG = 12,     /* the document has more bytes than CONL_MAX_DOCUMENT */
-    CONL_UNFIT_TOKEN = 13,  /* a row's text or indentation is not in the document, or no UTF-8 */
+    CONL_UNFIT_TOKEN = 13,  /* a row's text or indentation is not in the document, or not UTF-8 */
     CONL_SHORT_BUFFER = 14, /* the buffer has fewer bytes than the text that is to be written */
-    CONL_UNFIT_STATE = 15   /* the words are no state, or none of a reading of the document */
+    CONL_UNFIT_STATE = 15   /* the words encode no state, or one that does not fit the document */
 };
 
 /* What a call that takes no step adds to the refusal that it returns: above any count of rows. */
 #define CONL_NO_STEP ((size_t)1 << 63)
 
 /*
- * The tokenizer's fresh state: true, with the state in the first CONL_STATE_WORDS words of `state`;
- * or false, with nothing written, where there are fewer.
+ * The tokenizer's fresh state: true, with the state in the first CONL_TOKENIZER_WORDS words of
+ * `state`; or false, with nothing written, where there are fewer.
  */
-bool conl_fresh(size_t *state, size_t state_len);
+bool conl_fresh_tokenizer(size_t *state, size_t state_len);
 
 /*
  * Takes steps of the tokenizer from the state in `state` on, and writes a row for each to the front
@@ -106,13 +120,17 @@ bool conl_fresh(size_t *state, size_t state_len);
  * and the next step goes on after it. Every word behind the state and behind the rows is as it was.
  *
  * Returns CONL_NO_STEP + CONL_TOO_LONG where the document is too long; else CONL_NO_STEP +
- * CONL_UNFIT_STATE where `state` holds no state, or one that does not fit the document, which no
- * reading from the fresh state on comes to. Nothing is written then.
+ * CONL_UNFIT_STATE where `state` has fewer than CONL_TOKENIZER_WORDS words, or they encode no
+ * state, or one that does not fit the document: no reading from the fresh state on comes to this.
+ * Nothing is written then.
  */
 size_t conl_tokenize(const uint8_t *doc, size_t doc_len, size_t *state, size_t state_len,
                      size_t *rows, size_t rows_len);
 
-/* The parser's fresh state, as conl_fresh gives the tokenizer's: in CONL_PARSER_WORDS words. */
+/*
+ * The parser's fresh state, as conl_fresh_tokenizer gives the tokenizer's: in CONL_PARSER_WORDS
+ * words.
+ */
 bool conl_fresh_parser(size_t *state, size_t state_len);
 
 /*
@@ -128,37 +146,42 @@ size_t conl_parse(const uint8_t *doc, size_t doc_len, size_t *state, size_t stat
 
 /* The words of an answer. */
 enum conl_answer_word {
-    CONL_ANSWER_SORT,   /* an enum conl_sort */
+    CONL_ANSWER_KIND,   /* conl_unescape: an enum conl_text; conl_look_up: an enum conl_found */
     CONL_ANSWER_NUMBER, /* a refusal's number, or 0 */
     CONL_ANSWER_LINE,   /* a refusal's line, or a key's, or 0 */
     CONL_ANSWER_START,  /* where a part of the document starts, or 0 */
     CONL_ANSWER_END     /* where it ends, or the length of a text that was written, or 0 */
 };
 
-/* The sorts of answers, and the words that each has besides its sort. */
-enum conl_sort {
-    CONL_PLAIN = 0,   /* conl_unescape: start and end of the text in the document */
-    CONL_WRITTEN = 1, /* conl_unescape: the length of the text, which is at the front of `out` */
-    CONL_NOTHING = 0, /* conl_look_up: no such key */
-    CONL_FOUND = 1,   /* conl_look_up: the key's line, and start and end of its entry */
-    CONL_REFUSAL = 2  /* number and line; for 8, start and end of the part that is wrong */
+/* The kinds of conl_unescape's answers, and the words that each has besides its kind. */
+enum conl_text {
+    CONL_TEXT_PLAIN = 0,   /* start and end of the text in the document */
+    CONL_TEXT_WRITTEN = 1, /* as its end, the length of the text, which is at the front of `out` */
+    CONL_TEXT_REFUSED = 2  /* number and line; for 8, start and end of the part that is wrong */
 };
 
 /*
  * Unescapes the text of a token of the document: of `row`, as conl_tokenize or conl_parse wrote it,
  * with or without the spare word. The text of a kind that has none is the empty part at 0.
  *
- * Returns true, with the answer in the first CONL_ANSWER_WORDS words of `answer`. A text that is no
- * part of the document is written to the front of `out`, of which every other byte is as it was; it
- * is never longer than the row's text, so that so long a buffer is never refused by 14. Refusals
- * are, in this order: 12, on line 0; 13, which no row of a reading from the fresh state on meets; 8
- * to 11; 14. All but 12 are on the token's line.
+ * Returns true, with the answer in the first CONL_ANSWER_WORDS words of `answer`. A text that is
+ * not a part of the document is written to the front of `out`, of which every other byte is as it
+ * was; it is never longer than the row's text, so that so long a buffer is never refused by 14.
+ * Refusals are, in this order: 12, on line 0; 13, which no row of a reading from the fresh state on
+ * meets; 8 to 11; 14. All but 12 are on the token's line.
  *
- * Returns false, with nothing written, where `row` has fewer than six words or is no token's, or
- * `answer` has fewer than CONL_ANSWER_WORDS words.
+ * Returns false, with nothing written, where `row` has fewer than six words, its number is not an
+ * enum conl_kind, or `answer` has fewer than CONL_ANSWER_WORDS words.
  */
 bool conl_unescape(const uint8_t *doc, size_t doc_len, const size_t *row, size_t row_len,
                    uint8_t *out, size_t out_len, size_t *answer, size_t answer_len);
+
+/* The kinds of conl_look_up's answers, and the words that each has besides its kind. */
+enum conl_found {
+    CONL_FOUND_NOTHING = 0, /* there is no such key, and the document is accepted */
+    CONL_FOUND_AT = 1,      /* the key's line, and start and end of its entry */
+    CONL_FOUND_REFUSED = 2  /* number and line */
+};
 
 /*
  * Looks up the first key at top level whose text is, byte for byte as it stands in the document,

@@ -1,4 +1,5 @@
-// The functions that C and Rust call: a slice is a pointer and a length. include/conl.h and rust/conl declare them.
+// The functions that C and Rust call: a slice is a pointer and a length. include/conl.h and rust/conl declare them;
+// tests/c/run compares the declarations of conl.h with these.
 use text::Dropped;
 ghost use mathlib.Core.Path.{_≡_};
 ghost use lib.Dec.{leb};
@@ -12,6 +13,17 @@ ghost use Rattle.parser_words.specs.Parsing.{parseBatchOf};
 ghost use Rattle.answer_words.specs.Texts.{textOf};
 ghost use Rattle.answer_words.specs.Found.{foundIn};
 ghost use Rattle.abi.specs.Lent.{whichOf, partIn};
+ghost use Rattle.abi.specs.Version.{version};
+
+const VERSION: usize = 1;
+
+// The version of the words that cross: of rows, states and answers. CONL_VERSION of conl.h is the same.
+#[no_mangle]
+pub extern "C" fn conl_version() -> usize
+    ensures { λ r. ⌜ r ≡ version ⌝ }
+{
+    VERSION
+}
 
 // Whether s is well-formed UTF-8.
 #[no_mangle]
@@ -47,17 +59,18 @@ pub extern "C" fn conl_trim(s: &[u8], breaks: bool, part: &mut [usize]) -> bool
     true
 }
 
-// Writes the fresh state at the front of the words: true; or false, with state unchanged, where there are fewer than 137.
+// Writes the tokenizer's fresh state at the front of the words: true; or false, with state unchanged, where there are
+// fewer than 137.
 #[no_mangle]
-pub extern "C" fn conl_fresh(state: &mut [usize]) -> bool
+pub extern "C" fn conl_fresh_tokenizer(state: &mut [usize]) -> bool
     ensures { λ r. ⌜ r ≡ leb 137 (length (now (state .entry))) ⌝ }
     ensures { λ r. ⌜ now (state .exit) ≡ freshIn (now (state .entry)) ⌝ }
 {
     tokenizer_words::fresh(state)
 }
 
-// Takes as many answers as rows has room for, a row of seven words each, up to End, and leaves the state after them: how
-// many rows; or 2^63 and a refusal's number, 12 or 15, with nothing written.
+// Takes as many answers as rows has room for, a row of seven words each, up to End, and leaves the state after them:
+// how many rows; or 2^63 and a refusal's number, 12 or 15, with nothing written.
 #[no_mangle]
 pub extern "C" fn conl_tokenize(doc: &[u8], state: &mut [usize], rows: &mut [usize]) -> usize
     ensures { λ r. ⌜ r ≡ batchOf (now (doc .entry)) (now (state .entry)) (now (rows .entry)) .result ⌝ }
@@ -67,8 +80,8 @@ pub extern "C" fn conl_tokenize(doc: &[u8], state: &mut [usize], rows: &mut [usi
     tokenizer_words::tokenize(doc, state, rows)
 }
 
-// Writes the parser's fresh state at the front of the words: true; or false, with state unchanged, where there are fewer
-// than 213.
+// Writes the parser's fresh state at the front of the words: true; or false, with state unchanged, where there are
+// fewer than 213.
 #[no_mangle]
 pub extern "C" fn conl_fresh_parser(state: &mut [usize]) -> bool
     ensures { λ r. ⌜ r ≡ leb 213 (length (now (state .entry))) ⌝ }
@@ -77,7 +90,8 @@ pub extern "C" fn conl_fresh_parser(state: &mut [usize]) -> bool
     parser_words::fresh_parser(state)
 }
 
-// The same as conl_tokenize with the parser's answers and state; it stops before a 15 too, and the next call returns it.
+// The same as conl_tokenize with the parser's answers and state. It stops before a step that answers 15 too; the next
+// call then returns that 15.
 #[no_mangle]
 pub extern "C" fn conl_parse(doc: &[u8], state: &mut [usize], rows: &mut [usize]) -> usize
     ensures { λ r. ⌜ r ≡ parseBatchOf (now (doc .entry)) (now (state .entry)) (now (rows .entry)) .result ⌝ }
@@ -87,9 +101,10 @@ pub extern "C" fn conl_parse(doc: &[u8], state: &mut [usize], rows: &mut [usize]
     parser_words::parse(doc, state, rows)
 }
 
-// Unescapes the token of a row, and writes the answer at the front of its words: 0, 0, 0, start and end of a plain part; 1, 0,
-// 0, 0 and the length of the text that out now begins with; 2, a refusal's number, its line, start and end of the part that it
-// shows. False, with nothing written, where the row is no token's or there are fewer than five words for the answer.
+// Unescapes the token of a row, and writes the answer at the front of its words: 0, 0, 0, start and end of a plain
+// part; 1, 0, 0, 0 and the length of the text that out now begins with; 2, a refusal's number, its line, start and end
+// of the part that it shows. False, with nothing written, where the row has fewer than six words, its number is not a
+// kind's (1 to 10), or there are fewer than five words for the answer.
 #[no_mangle]
 pub extern "C" fn conl_unescape(
     doc: &[u8],
@@ -104,9 +119,9 @@ pub extern "C" fn conl_unescape(
     answer_words::unescape(doc, row, out, answer)
 }
 
-// Looks up the first top-level key with the bytes of wanted, and writes the answer at the front of its words: 0, 0, 0, 0, 0 for
-// nothing; 1, 0, the key's line, start and end of its entry; 2, a refusal's number, its line, 0, 0. False, with nothing written,
-// where there are fewer than five words for the answer.
+// Looks up the first top-level key with the bytes of wanted, and writes the answer at the front of its words: 0, 0, 0,
+// 0, 0 for nothing; 1, 0, the key's line, start and end of its entry; 2, a refusal's number, its line, 0, 0. False,
+// with nothing written, where there are fewer than five words for the answer.
 #[no_mangle]
 pub extern "C" fn conl_look_up(doc: &[u8], wanted: &[u8], answer: &mut [usize]) -> bool
     ensures { λ r. ⌜ r ≡ leb 5 (length (now (answer .entry))) ⌝ }

@@ -4,7 +4,7 @@ use super::rows::{Rows, State};
 use super::words::Words;
 
 extern "C" {
-    fn conl_fresh(state: *mut usize, state_len: usize) -> bool;
+    fn conl_fresh_tokenizer(state: *mut usize, state_len: usize) -> bool;
     fn conl_tokenize(
         doc: *const u8,
         doc_len: usize,
@@ -29,7 +29,7 @@ pub fn tokenize(document: &[u8]) -> Tokenizer<'_, 256> {
 impl State for TokenizerState {
     fn fresh() -> Self {
         // SAFETY: a function of the library touches nothing but what it is lent.
-        TokenizerState(unsafe { Words::fresh(conl_fresh) })
+        TokenizerState(unsafe { Words::fresh(conl_fresh_tokenizer) })
     }
 
     fn advance(&mut self, document: &[u8], rows: &mut [usize]) -> usize {
