@@ -35,10 +35,10 @@ use Rattle.parser_words.specs.Parsing.{isUnfit, isStop}
 use Rattle.parser_words.specs.Stepping.{cameIn, sortAt, judgedIn, outcomeBy, outcomeIn}
 use Rattle.parser_words.specs.declared.steps.Outcome.{Outcome}
 use Rattle.parser_words.proofs.Sorts.{sections-length}
-use Rattle.parser_words.proofs.Back.{all-words, behind-137, number-at, line-at, kept-at, count-word, sorts-at}
+use Rattle.parser_words.proofs.Back.{kinds, all-words, behind-137, number-at, line-at, kept-at, count-word, sorts-at}
 use Rattle.parser_words.proofs.Agreeing.{Leaves, agrees}
 use Rattle.parser_words.proofs.Putting.{moved, put-is}
-use Rattle.parser_words.proofs.Coming.{kinds, sort-is, Comes, comes}
+use Rattle.parser_words.proofs.Coming.{sort-is, Comes, comes}
 
 -- the answers that stop, by their numbers
 pub zero-stops : (a : Answer) → valuesOf a .number ≡ 0 → isStop a ≡ true
