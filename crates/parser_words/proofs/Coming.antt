@@ -1,10 +1,10 @@
 -- What comes: the words say what was kept, or the tokenizer's next; and it leads to the tokenizer's state after it.
 use Prim.Native.Nat.{ℕ, zero, suc, _+_, _≤_}
-use mathlib.Core.Path.{_≡_, refl, sym, ap, subst, _∙_}
-use mathlib.Core.List.{List, [], _∷_, _++_}
-use mathlib.Core.Bool.{true, false}
+use mathlib.Core.Path.{_≡_, refl, sym, ap, _∙_}
+use mathlib.Core.List.{List, _++_}
+use mathlib.Core.Bool.{true}
 use native.Mathlib.Omega.{arith}
-use lib.Dec.{eqb, ltb}
+use lib.Dec.{ltb}
 use lib.ListN.{length, drop, getD, List·getD-append}
 use lib.Seq.{getD-drop}
 use borrow.Author.Tests.{ltb-true}
@@ -24,11 +24,10 @@ use Rattle.parser_rules.specs.declared.ruling.Sort.{Sort}
 use Rattle.parser_rules.specs.declared.ruling.Sort.the-variants as sort
 use Rattle.parser_rules.specs.declared.ruling.Kept.{Kept}
 use Rattle.parser_rules.specs.declared.ruling.Kept.the-variants as kept
-use Rattle.parser_rules.specs.declared.ruling.Innermost.the-variants.{Missing, Of}
+use Rattle.parser_rules.specs.declared.ruling.Innermost.the-variants.{Of}
 use Rattle.parser.specs.Step.{noSort, innermostOf, cameOf}
 use Rattle.parser.specs.declared.state.Section.{Section}
 use Rattle.tokenizer_words.specs.Words.{wordsOf, stateIn, committed}
-use Rattle.tokenizer_words.specs.Rows.{rowOf}
 use Rattle.tokenizer_words.proofs.Standing.{stepped, step-committed}
 use Rattle.tokenizer_words.proofs.Slotted.{step-slots}
 use Rattle.tokenizer_words.proofs.Walking.{slots-64}

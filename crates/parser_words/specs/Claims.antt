@@ -2,7 +2,7 @@
 -- rows, and the order of the words, without which two halves that are wrong alike would do.
 use Prim.Native.Nat.{ℕ}
 use mathlib.Core.Path.{_≡_}
-use mathlib.Core.List.{List, [], _∷_, _++_, map}
+use mathlib.Core.List.{List, _∷_, _++_, map}
 use mathlib.Core.Bool.{Bool, true, false}
 use lib.ListN.{length, replicate}
 use Rattle.tokenizer.specs.Token.{tokenValues}

@@ -1,9 +1,9 @@
 -- One step of the parser's state in words, in place: what came, what is judged of it, and what that leaves in the words.
 use Prim.Native.Nat.{ℕ, zero, suc, _+_}
 use mathlib.Core.List.{List, [], _∷_, _++_}
-use mathlib.Core.Bool.{Bool, true, false, cond}
+use mathlib.Core.Bool.{true, false, cond}
 use lib.Dec.{eqb, leb, ltb}
-use lib.ListN.{length, getD, set, drop}
+use lib.ListN.{getD, set, drop}
 use Rattle.tokenizer.specs.Token.{bare}
 use Rattle.tokenizer.specs.Step.{noPart}
 use Rattle.tokenizer.specs.Front.{frontOf, saidBy, aheadOf}
