@@ -1,10 +1,11 @@
--- What holds the words of answers to the answers: a token's row is unescaped as the token is, over the limit 12 comes first, and
--- distinct answers have distinct words, in the order of include/conl.h.
+-- Claims about the words of answers: a token's row is unescaped as the token is, over the limit 12 comes first, and
+-- distinct answers have distinct words, in the order of include/conl.h. proofs/Claimed proves them.
 use Prim.Native.Nat.{ℕ, _≤_, _<_}
 use mathlib.Core.Path.{_≡_}
 use mathlib.Core.List.{List, [], _∷_, _++_}
 use mathlib.Core.Bool.{true, false}
 use lib.ListN.{length, take, drop}
+use Rattle.text.specs.Numbers.{maxDocument, tooLong}
 use Rattle.tokenizer.specs.Token.{tokenValues}
 use Rattle.tokenizer.specs.declared.token.Token.{Token}
 use Rattle.tokenizer_words.specs.Rows.{rowOf}
@@ -14,35 +15,35 @@ use Rattle.unescape.specs.declared.Answer.{Answer}
 use Rattle.unescape.specs.declared.Answer.the-variants as answer
 use Rattle.look_up.specs.declared.search.Found.{Found}
 use Rattle.look_up.specs.declared.search.Found.the-variants as found
-use Rattle.answer_words.specs.Texts.{answerWords, isToken, textOf}
+use Rattle.answer_words.specs.Texts.{answerSize, answerWords, isToken, textOf}
 use Rattle.answer_words.specs.Found.{foundWords, foundIn}
 
 -- a token's row, with its spare word or without it, is unescaped as the token is, with every buffer
 abbrev pub RowsUnescaped : Type 0
 RowsUnescaped =
-    (d : List ℕ) (t : Token) (r o w : List ℕ) → 5 ≤ length w
+    (d : List ℕ) (t : Token) (r o w : List ℕ) → answerSize ≤ length w
     → textOf d (take 6 (rowOf (tokenValues t)) ++ r) o w ≡ record {
       result = true;
       buffer = unescapeOf d t o .buffer;
-      words = answerWords (unescapeOf d t o .answer) ++ drop 5 w;
+      words = answerWords (unescapeOf d t o .answer) ++ drop answerSize w;
     }
 
 -- over the limit 12 on line 0, whatever the row, and the buffer as it was
 abbrev pub TextsOver : Type 0
 TextsOver =
-    (d r o w : List ℕ) → 16777216 < length d → 5 ≤ length w
-    → textOf d r o w ≡ record { result = true; buffer = o; words = 2 ∷ 12 ∷ 0 ∷ 0 ∷ 0 ∷ drop 5 w }
+    (d r o w : List ℕ) → maxDocument < length d → answerSize ≤ length w
+    → textOf d r o w ≡ record { result = true; buffer = o; words = 2 ∷ tooLong ∷ 0 ∷ 0 ∷ 0 ∷ drop answerSize w }
 
 abbrev pub FoundOver : Type 0
-FoundOver = (d k a : List ℕ) → 16777216 < length d → 5 ≤ length a → foundIn d k a ≡ 2 ∷ 12 ∷ 0 ∷ 0 ∷ 0 ∷ drop 5 a
+FoundOver = (d k a : List ℕ) → maxDocument < length d → answerSize ≤ length a → foundIn d k a ≡ 2 ∷ tooLong ∷ 0 ∷ 0 ∷ 0 ∷ drop answerSize a
 
 -- nothing is written where there is no room for an answer, or, within the limit, where the row is no token's
 abbrev pub NoRoom : Type 0
-NoRoom = (d r o w : List ℕ) → length w < 5 → textOf d r o w ≡ record { result = false; buffer = o; words = w }
+NoRoom = (d r o w : List ℕ) → length w < answerSize → textOf d r o w ≡ record { result = false; buffer = o; words = w }
 
 abbrev pub NoToken : Type 0
 NoToken =
-    (d r o w : List ℕ) → length d ≤ 16777216 → isToken r ≡ false → textOf d r o w ≡ record { result = false; buffer = o; words = w }
+    (d r o w : List ℕ) → length d ≤ maxDocument → isToken r ≡ false → textOf d r o w ≡ record { result = false; buffer = o; words = w }
 
 -- distinct answers have distinct words
 abbrev pub AnswersTold : Type 0

@@ -1,5 +1,6 @@
--- What holds the parser's words and rows to its states and answers: what is written is read back, distinct answers have distinct
--- rows, and the order of the words, without which two halves that are wrong alike would do.
+-- Claims about the parser's words and rows: what is written is read back, distinct answers have distinct rows, and the
+-- words stand in this order, without which two halves that are wrong alike would do. proofs/Claimed and Slotted prove
+-- them, and proofs/Back that a token is read back.
 use Prim.Native.Nat.{ℕ}
 use mathlib.Core.Path.{_≡_}
 use mathlib.Core.List.{List, _∷_, _++_, map}
@@ -17,7 +18,7 @@ use Rattle.parser_rules.specs.declared.ruling.Awaited.{Awaited}
 use Rattle.parser_rules.specs.declared.ruling.Awaited.the-variants as awaited
 use Rattle.parser_rules.specs.declared.ruling.Kept.{Kept}
 use Rattle.parser_rules.specs.declared.ruling.Kept.the-variants as kept
-use Rattle.parser.specs.Step.{noSort, stepOf, fresh}
+use Rattle.parser.specs.Step.{maxSections, noSort, stepOf, fresh}
 use Rattle.parser.specs.declared.state.State.{State}
 use Rattle.tokenizer_words.specs.Words.{wordsOf}
 use Rattle.tokenizer_words.specs.Rows.{rowOf, rowsOf}
@@ -25,9 +26,9 @@ use Rattle.tokenizer_words.specs.Claims.{part, standing}
 use Rattle.tokenizer_words.specs.Claims.{Slots as TokenizerSlots}
 use Rattle.parser_words.specs.ParserWords.{parserWords, parserIn, parserReadable, tokenIn}
 
--- a state has its 65 sections, and T holds of its tokenizer's state
+-- a state has its record of sections, and T holds of its tokenizer's state
 abbrev pub Having : (Tokenizer → Type 0) → State → Type 0
-Having T s = T (s .tokenizer) × (length (s .sections) ≡ 65)
+Having T s = T (s .tokenizer) × (length (s .sections) ≡ maxSections)
 
 -- it has all its slots: the code's arrays have no other length
 abbrev pub Slots : State → Type 0

@@ -1,10 +1,12 @@
--- One step of the parser's state in words, in place: what came, what is judged of it, and what that leaves in the words.
+-- Intermediate: one step of the parser's state in words, in place: what came, what is judged of it, and what that
+-- leaves in the words. proofs/Going shows that it is the law's step.
 use Prim.Native.Nat.{ℕ, zero, suc, _+_}
 use mathlib.Core.List.{List, [], _∷_, _++_}
 use mathlib.Core.Bool.{true, false, cond}
 use lib.Dec.{eqb, leb, ltb}
 use lib.ListN.{getD, set, drop}
-use Rattle.tokenizer.specs.Token.{bare}
+use Rattle.text.specs.Numbers.{missingMultiline, unfitState}
+use Rattle.tokenizer.specs.Token.{bare, refusalNumber}
 use Rattle.tokenizer.specs.Step.{noPart}
 use Rattle.tokenizer.specs.Front.{frontOf, saidBy, aheadOf}
 use Rattle.tokenizer.specs.declared.front.Said.{Said}
@@ -16,10 +18,10 @@ use Rattle.parser_rules.specs.declared.judging.Judged.the-variants.{GivesOn, No
 use Rattle.parser_rules.specs.declared.ruling.Sort.the-variants as sort
 use Rattle.parser_rules.specs.declared.ruling.Change.{Change}
 use Rattle.parser_rules.specs.declared.ruling.Change.the-variants.{Keep, Fix, Open, Close}
-use Rattle.parser.specs.Step.{countAfter, stepOf}
+use Rattle.parser.specs.Step.{maxSections, countAfter, stepOf}
 use Rattle.tokenizer_words.specs.Words.{pastedIn, flag, stateIn}
 use Rattle.tokenizer_words.specs.Rows.{rowBy}
-use Rattle.parser_words.specs.ParserWords.{sortWord, parserWords, parserIn}
+use Rattle.parser_words.specs.ParserWords.{parserSize, sortWord, parserWords, parserIn}
 use Rattle.parser_words.specs.Parsing.{isStop}
 use Rattle.parser_words.specs.declared.steps.Outcome.{Outcome}
 
@@ -41,11 +43,11 @@ cameIn d w =
 -- the innermost section's sort, n being open; 3 where there is none
 unfoldable pub sortAt : ℕ → List ℕ → ℕ
 sortAt zero w = 3
-sortAt (suc n) w = cond (ltb n 65) (getD w (148 + n) 0) 3
+sortAt (suc n) w = cond (ltb n maxSections) (getD w (148 + n) 0) 3
 
 -- what is judged of an answer of that number
 abbrev pub judgedIn : ℕ → List ℕ → Judged
-judgedIn n w = judgedBy n (getD w 138 0) (sortAt (getD w 147 0) w) (leb 65 (getD w 147 0))
+judgedIn n w = judgedBy n (getD w 138 0) (sortAt (getD w 147 0) w) (leb maxSections (getD w 147 0))
 
 abbrev pub given : Said → ℕ → ℕ → Change → Outcome
 given s n l c = record { answer = s; refused = false; awaited = n; line = l; kept = nothing; change = c }
@@ -68,10 +70,10 @@ outcomeBy Listed s n l = given s 1 (s .line) (Fix sort.List)
 outcomeBy Hint s n l = given s 2 l Keep
 outcomeBy Value s n l = given s 0 0 Keep
 outcomeBy Passes s n l = denied s n l
-outcomeBy (Refuses k) s n l = denied (saidBy (bare (256 + k) (s .line))) 0 0
-outcomeBy RefusesEntry s n l = denied (saidBy (bare 260 l)) 0 0
+outcomeBy (Refuses k) s n l = denied (saidBy (bare (refusalNumber k) (s .line))) 0 0
+outcomeBy RefusesEntry s n l = denied (saidBy (bare (refusalNumber missingMultiline) l)) 0 0
 outcomeBy End s n l = given nothing 0 0 Keep
-outcomeBy Unfit s n l = denied (saidBy (bare 271 0)) 0 0
+outcomeBy Unfit s n l = denied (saidBy (bare (refusalNumber unfitState) 0)) 0 0
 
 -- the eleven middle words, n sections being open
 abbrev pub middleBy : Outcome → ℕ → List ℕ
@@ -90,4 +92,4 @@ outcomeIn o w = sortPut (o .change) (getD w 147 0) (pastedIn (middleBy o (getD w
 
 -- the words after one step of the state in them: unchanged where it is End or 15
 unfoldable pub parserSteppedIn : List ℕ → List ℕ → List ℕ
-parserSteppedIn d w = let t = stepOf d (parserIn w) in cond (isStop (t .answer)) w (parserWords (t .state) ++ drop 213 w)
+parserSteppedIn d w = let t = stepOf d (parserIn w) in cond (isStop (t .answer)) w (parserWords (t .state) ++ drop parserSize w)

@@ -12,20 +12,21 @@ ghost use mathlib.Core.Bool.{true};
 ghost use mathlib.Core.List.{_++_};
 ghost use Prim.Native.Nat.{_/_, _≤_};
 ghost use lib.ListN.{length, drop};
+ghost use Rattle.text.specs.Numbers.{maxDocument};
 ghost use Rattle.tokenizer.specs.Step.{fit};
-ghost use Rattle.tokenizer_words.specs.Rows.{rowsIn, taken};
-ghost use Rattle.parser_words.specs.ParserWords.{parserWords, parserIn};
+ghost use Rattle.tokenizer_words.specs.Rows.{rowSize, rowsIn, taken};
+ghost use Rattle.parser_words.specs.ParserWords.{parserSize, parserWords, parserIn};
 ghost use Rattle.parser_words.specs.Parsing.{parsing, parseBatchOf};
 
 // Takes answers until End or 15 comes or no room is left for a row: how many. The state stands in the words, and stays there.
 fn take_rows(doc: &[u8], w: &mut [usize], rows: &mut [usize]) -> usize
-    requires { ⌜ length (now doc) ≤ 16777216 ⌝ }
-    requires { ⌜ 213 ≤ length (now w) ⌝ }
-    requires { ⌜ now w ≡ parserWords (parserIn (now w)) ++ drop 213 (now w) ⌝ }
+    requires { ⌜ length (now doc) ≤ maxDocument ⌝ }
+    requires { ⌜ parserSize ≤ length (now w) ⌝ }
+    requires { ⌜ now w ≡ parserWords (parserIn (now w)) ++ drop parserSize (now w) ⌝ }
     requires { ⌜ fit (length (now doc)) (parserIn (now w) .tokenizer) ≡ true ⌝ }
-    ensures { λ r. ⌜ r ≡ length (taken (parsing (now (doc .entry))) (length (now (rows .entry)) / 7) (parserIn (now (w .entry))) .answers) ⌝ }
-    ensures { λ r. ⌜ now (w .exit) ≡ parserWords (taken (parsing (now (doc .entry))) (length (now (rows .entry)) / 7) (parserIn (now (w .entry))) .state) ++ drop 213 (now (w .entry)) ⌝ }
-    ensures { λ r. ⌜ now (rows .exit) ≡ rowsIn (taken (parsing (now (doc .entry))) (length (now (rows .entry)) / 7) (parserIn (now (w .entry))) .answers) (now (rows .entry)) ⌝ }
+    ensures { λ r. ⌜ r ≡ length (taken (parsing (now (doc .entry))) (length (now (rows .entry)) / rowSize) (parserIn (now (w .entry))) .answers) ⌝ }
+    ensures { λ r. ⌜ now (w .exit) ≡ parserWords (taken (parsing (now (doc .entry))) (length (now (rows .entry)) / rowSize) (parserIn (now (w .entry))) .state) ++ drop parserSize (now (w .entry)) ⌝ }
+    ensures { λ r. ⌜ now (rows .exit) ≡ rowsIn (taken (parsing (now (doc .entry))) (length (now (rows .entry)) / rowSize) (parserIn (now (w .entry))) .answers) (now (rows .entry)) ⌝ }
 {
     let room = rows.len() / 7;
     let mut n = 0;

@@ -17,13 +17,14 @@ ghost use mathlib.Core.Bool.{true};
 ghost use mathlib.Core.List.{_++_};
 ghost use Prim.Native.Nat.{_≤_, _<_, _^_};
 ghost use lib.ListN.{length, drop, getD};
+ghost use Rattle.text.specs.Numbers.{maxDocument};
 ghost use Rattle.tokenizer.specs.Token.{bare};
 ghost use Rattle.tokenizer.specs.Step.{fit};
 ghost use Rattle.tokenizer.specs.Front.{saidBy};
 ghost use Rattle.tokenizer_words.specs.Words.{stateIn};
 ghost use Rattle.parser_rules.specs.Ruling.{valuesOf};
 ghost use Rattle.parser.specs.Step.{ChangeFits, countAfter, stepOf};
-ghost use Rattle.parser_words.specs.ParserWords.{parserWords, parserIn};
+ghost use Rattle.parser_words.specs.ParserWords.{parserSize, parserWords, parserIn};
 ghost use Rattle.parser_words.specs.Stepping.{
   keptSaid,
   cameIn,
@@ -65,7 +66,7 @@ fn say(number: usize, line: usize) -> Said
 
 // What was kept, as what a step says: 11 is End.
 fn kept_said(w: &[usize]) -> Said
-    requires { ⌜ 213 ≤ length (now w) ⌝ }
+    requires { ⌜ parserSize ≤ length (now w) ⌝ }
     ensures { λ r. ⌜ r ≡ keptSaid (now (w .entry)) ⌝ }
 {
     if w[140] == 11 {
@@ -83,7 +84,7 @@ fn kept_said(w: &[usize]) -> Said
 
 // What was kept comes again and moves nothing, else the tokenizer's next.
 fn came(doc: &[u8], w: &[usize]) -> Advanced
-    requires { ⌜ 213 ≤ length (now w) ⌝ }
+    requires { ⌜ parserSize ≤ length (now w) ⌝ }
     requires { ⌜ fit (length (now doc)) (stateIn (now w)) ≡ true ⌝ }
     ensures { λ r. ⌜ r ≡ cameIn (now (doc .entry)) (now (w .entry)) ⌝ }
 {
@@ -102,7 +103,7 @@ fn came(doc: &[u8], w: &[usize]) -> Advanced
 
 // The innermost section's sort; 3 where there is none.
 fn sort_at(count: usize, w: &[usize]) -> usize
-    requires { ⌜ 213 ≤ length (now w) ⌝ }
+    requires { ⌜ parserSize ≤ length (now w) ⌝ }
     ensures { λ r. ⌜ r ≡ sortAt count (now (w .entry)) ⌝ }
 {
     if count == 0 {
@@ -115,7 +116,7 @@ fn sort_at(count: usize, w: &[usize]) -> usize
 }
 
 fn judged(number: usize, w: &[usize]) -> Judged
-    requires { ⌜ 213 ≤ length (now w) ⌝ }
+    requires { ⌜ parserSize ≤ length (now w) ⌝ }
     ensures { λ r. ⌜ r ≡ judgedIn number (now (w .entry)) ⌝ }
 {
     let count = w[147];
@@ -202,7 +203,7 @@ fn count_after(change: Change, count: usize) -> usize
 }
 
 fn put_sort(change: Change, count: usize, w: &mut [usize])
-    requires { ⌜ 213 ≤ length (now w) ⌝ }
+    requires { ⌜ parserSize ≤ length (now w) ⌝ }
     requires { ⌜ ChangeFits change count ⌝ }
     ensures { λ _. ⌜ now (w .exit) ≡ sortPut change count (now (w .entry)) ⌝ }
 {
@@ -219,7 +220,7 @@ fn put_sort(change: Change, count: usize, w: &mut [usize])
 }
 
 fn put_outcome(o: Outcome, w: &mut [usize])
-    requires { ⌜ 213 ≤ length (now w) ⌝ }
+    requires { ⌜ parserSize ≤ length (now w) ⌝ }
     requires { ⌜ ChangeFits (o .change) (getD (now w) 147 0) ⌝ }
     ensures { λ _. ⌜ now (w .exit) ≡ outcomeIn o (now (w .entry)) ⌝ }
 {
@@ -245,9 +246,9 @@ fn put_outcome(o: Outcome, w: &mut [usize])
 
 // One step: what it says, 271 for 15. The words are those of the state after it, or, where it says End or 15, as they were.
 pub(crate) fn step_in(doc: &[u8], w: &mut [usize]) -> Said
-    requires { ⌜ length (now doc) ≤ 16777216 ⌝ }
-    requires { ⌜ 213 ≤ length (now w) ⌝ }
-    requires { ⌜ now w ≡ parserWords (parserIn (now w)) ++ drop 213 (now w) ⌝ }
+    requires { ⌜ length (now doc) ≤ maxDocument ⌝ }
+    requires { ⌜ parserSize ≤ length (now w) ⌝ }
+    requires { ⌜ now w ≡ parserWords (parserIn (now w)) ++ drop parserSize (now w) ⌝ }
     requires { ⌜ fit (length (now doc)) (parserIn (now w) .tokenizer) ≡ true ⌝ }
     ensures { λ r. ⌜ r ≡ saidBy (valuesOf (stepOf (now (doc .entry)) (parserIn (now (w .entry))) .answer)) ⌝ }
     ensures { λ _. ⌜ now (w .exit) ≡ parserSteppedIn (now (doc .entry)) (now (w .entry)) ⌝ }

@@ -1,10 +1,11 @@
--- What holds the words and rows to states and answers: what is written is read back, distinct answers have distinct rows, and the
--- order of the words, without which two halves that are wrong alike would do.
+-- Claims about the words and rows: what is written is read back, distinct answers have distinct rows, and the words
+-- stand in this order, without which two halves that are wrong alike would do. proofs/Claimed and Slotted prove them.
 use Prim.Native.Nat.{ℕ, _≤_}
 use mathlib.Core.Path.{_≡_}
 use mathlib.Core.List.{List, [], _∷_, _++_, map}
 use mathlib.Core.Bool.{Bool, true, false}
 use lib.ListN.{length, replicate}
+use Rattle.text.specs.Numbers.{maxOpen}
 use Rattle.text.specs.declared.bytes.Part.{Part}
 use Rattle.tokenizer.specs.Token.{tokenValues, valuesOf}
 use Rattle.tokenizer.specs.Step.{noPart, stepOf, fresh}
@@ -14,12 +15,12 @@ use Rattle.tokenizer.specs.declared.state.Answer.{Answer}
 use Rattle.tokenizer.specs.declared.state.Answer.the-variants as answer
 use Rattle.tokenizer.specs.declared.state.Held.the-variants.{At}
 use Rattle.tokenizer.specs.declared.state.State.{State}
-use Rattle.tokenizer_words.specs.Words.{wordsOf, storedIn, stateIn, loadedFrom, readable}
+use Rattle.tokenizer_words.specs.Words.{tokenizerSize, wordsOf, storedIn, stateIn, loadedFrom, readable}
 use Rattle.tokenizer_words.specs.Rows.{rowOf, rowsOf}
 
--- a state has its 64 slots: the code's array has no other length
+-- a state has its slots, one for each section that may be open: the code's array has no other length
 abbrev pub Slots : State → Type 0
-Slots s = length (s .indents) ≡ 64
+Slots s = length (s .indents) ≡ maxOpen
 
 -- a state is read back from its words, whatever words follow, and they are taken for a state's
 pub record Back (s : State) (r : List ℕ) : Type 0 where
@@ -31,7 +32,7 @@ StatesBack = (s : State) (r : List ℕ) → Slots s → Back s r
 
 -- also where it is stored and loaded
 abbrev pub StoredBack : Type 0
-StoredBack = (s : State) (w : List ℕ) → Slots s → 137 ≤ length w → loadedFrom (storedIn s w) ≡ s
+StoredBack = (s : State) (w : List ℕ) → Slots s → tokenizerSize ≤ length w → loadedFrom (storedIn s w) ≡ s
 
 -- so every state of a reading is: the fresh one has its slots, and a step keeps them
 pub record Slotted : Type 0 where

@@ -13,10 +13,11 @@ ghost use mathlib.Core.Bool.{true};
 ghost use mathlib.Core.List.{_++_};
 ghost use Prim.Native.Nat.{_/_, _≤_};
 ghost use lib.ListN.{length, drop};
+ghost use Rattle.text.specs.Numbers.{maxDocument};
 ghost use Rattle.tokenizer.specs.Step.{fit};
-ghost use Rattle.tokenizer_words.specs.Words.{wordsOf, stateIn};
+ghost use Rattle.tokenizer_words.specs.Words.{tokenizerSize, wordsOf, stateIn};
 ghost use Rattle.tokenizer.specs.Token.{bare, worded, tokenValues};
-ghost use Rattle.tokenizer_words.specs.Rows.{rowOf, rowBy, rowsIn, taken, tokenizing, batchOf};
+ghost use Rattle.tokenizer_words.specs.Rows.{rowSize, rowOf, rowBy, rowsIn, taken, tokenizing, batchOf};
 
 // The refusals before the first step: 2^63, which is above any count of rows, and 12 or 15.
 pub const TOO_LONG: usize = 0x8000_0000_0000_000C;
@@ -65,13 +66,13 @@ pub fn said_row(s: Said) -> [usize; 7]
 
 // Takes answers until End comes or no room is left for a row: how many. The state stands in the words, and stays there.
 fn take_rows(doc: &[u8], w: &mut [usize], rows: &mut [usize]) -> usize
-    requires { ⌜ length (now doc) ≤ 16777216 ⌝ }
-    requires { ⌜ 137 ≤ length (now w) ⌝ }
-    requires { ⌜ now w ≡ wordsOf (stateIn (now w)) ++ drop 137 (now w) ⌝ }
+    requires { ⌜ length (now doc) ≤ maxDocument ⌝ }
+    requires { ⌜ tokenizerSize ≤ length (now w) ⌝ }
+    requires { ⌜ now w ≡ wordsOf (stateIn (now w)) ++ drop tokenizerSize (now w) ⌝ }
     requires { ⌜ fit (length (now doc)) (stateIn (now w)) ≡ true ⌝ }
-    ensures { λ r. ⌜ r ≡ length (taken (tokenizing (now (doc .entry))) (length (now (rows .entry)) / 7) (stateIn (now (w .entry))) .answers) ⌝ }
-    ensures { λ r. ⌜ now (w .exit) ≡ wordsOf (taken (tokenizing (now (doc .entry))) (length (now (rows .entry)) / 7) (stateIn (now (w .entry))) .state) ++ drop 137 (now (w .entry)) ⌝ }
-    ensures { λ r. ⌜ now (rows .exit) ≡ rowsIn (taken (tokenizing (now (doc .entry))) (length (now (rows .entry)) / 7) (stateIn (now (w .entry))) .answers) (now (rows .entry)) ⌝ }
+    ensures { λ r. ⌜ r ≡ length (taken (tokenizing (now (doc .entry))) (length (now (rows .entry)) / rowSize) (stateIn (now (w .entry))) .answers) ⌝ }
+    ensures { λ r. ⌜ now (w .exit) ≡ wordsOf (taken (tokenizing (now (doc .entry))) (length (now (rows .entry)) / rowSize) (stateIn (now (w .entry))) .state) ++ drop tokenizerSize (now (w .entry)) ⌝ }
+    ensures { λ r. ⌜ now (rows .exit) ≡ rowsIn (taken (tokenizing (now (doc .entry))) (length (now (rows .entry)) / rowSize) (stateIn (now (w .entry))) .answers) (now (rows .entry)) ⌝ }
 {
     let room = rows.len() / 7;
     let mut n = 0;

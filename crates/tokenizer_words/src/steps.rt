@@ -15,14 +15,15 @@ ghost use mathlib.Core.Path.{_≡_};
 ghost use mathlib.Core.Bool.{true};
 ghost use Prim.Native.Nat.{_≤_};
 ghost use lib.ListN.{length, drop, getD};
+ghost use Rattle.text.specs.Numbers.{maxDocument, maxOpen};
 ghost use Rattle.tokenizer.specs.Token.{valuesOf};
 ghost use Rattle.tokenizer.specs.Step.{innerOf, fit, stepOf};
 ghost use Rattle.tokenizer.specs.Front.{frontOf, saidBy, aheadOf};
-ghost use Rattle.tokenizer_words.specs.Words.{frontWordsBy, partsIn, stateIn, slotIn, committed, steppedIn};
+ghost use Rattle.tokenizer_words.specs.Words.{tokenizerSize, frontWordsBy, partsIn, stateIn, slotIn, committed, steppedIn};
 
 // The state in the words but for the slots.
 pub fn front_in(w: &[usize]) -> Front
-    requires { ⌜ 137 ≤ length (now w) ⌝ }
+    requires { ⌜ tokenizerSize ≤ length (now w) ⌝ }
     ensures { λ r. ⌜ r ≡ frontOf (stateIn (now (w .entry))) ⌝ }
 {
     let held = held_in(w);
@@ -41,9 +42,9 @@ pub fn front_in(w: &[usize]) -> Front
 
 // The innermost of the open indentations in the slots.
 fn inner_in(depth: usize, w: &[usize]) -> Part
-    requires { ⌜ 137 ≤ length (now w) ⌝ }
-    requires { ⌜ depth ≤ 64 ⌝ }
-    ensures { λ r. ⌜ r ≡ innerOf (partsIn 64 (drop 9 (now (w .entry)))) depth ⌝ }
+    requires { ⌜ tokenizerSize ≤ length (now w) ⌝ }
+    requires { ⌜ depth ≤ maxOpen ⌝ }
+    ensures { λ r. ⌜ r ≡ innerOf (partsIn maxOpen (drop 9 (now (w .entry)))) depth ⌝ }
 {
     if depth == 0 {
         return Part { start: 0, end: 0 };
@@ -74,7 +75,7 @@ fn front_words(f: Front) -> [usize; 9]
 }
 
 fn put_slot(change: Change, indent: Part, depth: usize, w: &mut [usize])
-    requires { ⌜ depth ≤ 64 ⌝ }
+    requires { ⌜ depth ≤ maxOpen ⌝ }
     ensures { λ _. ⌜ now (w .exit) ≡ slotIn change indent depth (now (w .entry)) ⌝ }
 {
     if let Change::Open = change {
@@ -85,7 +86,7 @@ fn put_slot(change: Change, indent: Part, depth: usize, w: &mut [usize])
 
 // What one step comes to, with nothing written.
 pub fn ahead(doc: &[u8], w: &[usize]) -> Advanced
-    requires { ⌜ 137 ≤ length (now w) ⌝ }
+    requires { ⌜ tokenizerSize ≤ length (now w) ⌝ }
     requires { ⌜ fit (length (now doc)) (stateIn (now w)) ≡ true ⌝ }
     ensures { λ r. ⌜ r ≡ aheadOf (now (doc .entry)) (stateIn (now (w .entry))) ⌝ }
 {
@@ -98,8 +99,8 @@ pub fn ahead(doc: &[u8], w: &[usize]) -> Advanced
 
 // Writes what a step comes to.
 pub fn commit(m: Advanced, w: &mut [usize])
-    requires { ⌜ 137 ≤ length (now w) ⌝ }
-    requires { ⌜ getD (now w) 8 0 ≤ 64 ⌝ }
+    requires { ⌜ tokenizerSize ≤ length (now w) ⌝ }
+    requires { ⌜ getD (now w) 8 0 ≤ maxOpen ⌝ }
     ensures { λ _. ⌜ now (w .exit) ≡ committed m (now (w .entry)) ⌝ }
 {
     let depth = w[8];
@@ -113,8 +114,8 @@ pub fn commit(m: Advanced, w: &mut [usize])
 
 // One step: what it says. The words are those of the state after it, or, where it says End, as they were.
 pub(crate) fn step_in(doc: &[u8], w: &mut [usize]) -> Said
-    requires { ⌜ length (now doc) ≤ 16777216 ⌝ }
-    requires { ⌜ 137 ≤ length (now w) ⌝ }
+    requires { ⌜ length (now doc) ≤ maxDocument ⌝ }
+    requires { ⌜ tokenizerSize ≤ length (now w) ⌝ }
     requires { ⌜ fit (length (now doc)) (stateIn (now w)) ≡ true ⌝ }
     ensures { λ r. ⌜ r ≡ saidBy (valuesOf (stepOf (now (doc .entry)) (stateIn (now (w .entry))) .answer)) ⌝ }
     ensures { λ _. ⌜ now (w .exit) ≡ steppedIn (now (doc .entry)) (now (w .entry)) ⌝ }

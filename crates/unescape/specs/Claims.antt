@@ -1,11 +1,13 @@
--- Claim 4, its second half: what unescaping writes or hands back of a valid text is valid UTF-8. And what it writes is never longer
--- than the token's text.
+-- Claims about the law: 4, its second half: what unescaping writes or hands back of a valid text is valid UTF-8
+-- (proofs/Valid proves it); and what it writes is never longer than the token's text (proofs/Shorter).
 use Prim.Native.Nat.{ℕ, _-_, _≤_}
 use mathlib.Core.Path.{_≡_}
 use mathlib.Core.List.{List, [], _∷_}
 use mathlib.Core.Bool.{true}
 use lib.ListN.{length, take, drop}
+use Rattle.text.specs.Ascii.{ascii}
 use Rattle.text.specs.Utf8.{utf8}
+use Rattle.text.specs.Numbers.{shortBuffer}
 use Rattle.text.specs.declared.bytes.Part.{Part}
 use Rattle.tokenizer.specs.Step.{noPart}
 use Rattle.tokenizer.specs.declared.token.Token.{Token}
@@ -37,9 +39,9 @@ Shorter = (d : List ℕ) (t : Token) (o : List ℕ) (n : ℕ) → unescapeOf d t
 -- so a buffer of that length never gets 14
 abbrev pub Enough : Type 0
 Enough =
-    (d : List ℕ) (t : Token) (o : List ℕ) (l : ℕ) (p : Part) → textSize t ≤ length o → unescapeOf d t o .answer ≡ Refused 14 l p → ⊥
+    (d : List ℕ) (t : Token) (o : List ℕ) (l : ℕ) (p : Part) → textSize t ≤ length o → unescapeOf d t o .answer ≡ Refused shortBuffer l p → ⊥
 
 -- the bound is met: `a` LF `b` as a multiline value with no indentation
 abbrev pub Met : Type 0
 Met =
-    unescapeOf (97 ∷ 10 ∷ 98 ∷ []) (MultilineValue 1 noPart (record { start = 0; end = 3 })) (0 ∷ 0 ∷ 0 ∷ []) .answer ≡ Written 3
+    unescapeOf (ascii "a\nb") (MultilineValue 1 noPart (record { start = 0; end = 3 })) (0 ∷ 0 ∷ 0 ∷ []) .answer ≡ Written 3
