@@ -16,7 +16,7 @@ ghost use lib.ListN.{length, drop};
 ghost use Rattle.text.specs.Numbers.{maxDocument};
 ghost use Rattle.tokenizer.specs.Step.{fit};
 ghost use Rattle.tokenizer_words.specs.Words.{tokenizerSize, wordsOf, stateIn};
-ghost use Rattle.tokenizer.specs.Token.{bare, worded, tokenValues};
+ghost use Rattle.tokenizer.specs.Token.{bare, withText, tokenValues};
 ghost use Rattle.tokenizer_words.specs.Rows.{rowSize, rowOf, rowBy, rowsIn, taken, tokenizing, batchOf};
 
 // The refusals before the first step: 2^63, which is above any count of rows, and 12 or 15.
@@ -32,7 +32,7 @@ pub fn bare_row(number: usize, line: usize) -> [usize; 7]
 }
 
 fn worded_row(number: usize, line: usize, p: Part) -> [usize; 7]
-    ensures { λ r. ⌜ r ≡ rowOf (worded number line p) ⌝ }
+    ensures { λ r. ⌜ r ≡ rowOf (withText number line p) ⌝ }
 {
     [number, line, p.start, p.end, 0, 0, 0]
 }

@@ -36,7 +36,9 @@ read c = sym (c .before .is-parser .ensures) ∙ not-false _ (c .if2 .left)
 
 -- the state fits
 fitting : (c : tie.Else3) → let a = c .before .before .before .before .before .before .before .before .before .before .before .before .args in fit (length (a .doc .now)) (parserIn (a .state .now) .tokenizer) ≡ true
-fitting c = rw (c .before .before .before .load-parser .ensures) at (sym (c .before .fits2 .ensures) ∙ not-false _ (c .if3 .left))
+fitting c =
+    let load-parser = c .before .before .before .load-parser in
+    rw (load-parser .ensures) at (sym (c .before .fits2 .ensures) ∙ not-false _ (c .if3 .left))
 
 slots : (c : tie.After-load-parser) → length (c .load-parser .result .tokenizer .indents) ≡ 64
 slots c = ap (λ (x : State). length (x .tokenizer .indents)) (c .load-parser .ensures) ∙ slots-in _
@@ -46,7 +48,9 @@ sections c = ap (λ (x : State). length (x .sections)) (c .load-parser .ensures)
 
 -- the copy
 copied : (c : tie.After-words3) → parserIn (c .before .before .store-parser .last .1 .0) ≡ parserIn (c .before .before .before .before .before .before .before .before .before .before .before .before .before .before .before .before .args .state .now)
-copied c = stood-state _ (slots (c .before .before .before .before .before .before .before)) (sections (c .before .before .before .before .before .before .before)) _ _ (c .before .before .store-parser .ensures) ∙ c .before .before .before .before .before .before .before .load-parser .ensures
+copied c =
+    let load-parser = c .before .before .before .before .before .before .before .load-parser in
+    stood-state _ (slots (c .before .before .before .before .before .before .before)) (sections (c .before .before .before .before .before .before .before)) _ _ (c .before .before .store-parser .ensures) ∙ load-parser .ensures
 
 -- what the first step says
 number : (m : tie.After-step-in) → let a = m .before .before .before .before .before .before .before .before .before .before .before .before .before .before .before .before .before .args in
@@ -71,8 +75,9 @@ same-length c = search needs
 returns-2 : tie.Need-returns-2
 unfolding parseBatchOf
 returns-2 c =
+    let if1 = c .before .before .before .if1 in
     let e = sym (c .before .is-parser .ensures) ∙ not-true _ (c .if2 .taken) in
-    promised (unfit _ _ _ _ _ (c .before .before .before .if1 .left) (rw e))
+    promised (unfit _ _ _ _ _ (if1 .left) (rw e))
 
 -- src/rows.rt:60:9
 load-parser-requires : tie.Need-load-parser-requires
@@ -90,9 +95,12 @@ same-length-2 c = search needs
 returns-3 : tie.Need-returns-3
 unfolding parseBatchOf isUnfit
 returns-3 c =
-    let a = c .before .before .before .before .before .before .before .before .before .before .before .before .args in
-    let h = c .before .before .before .before .before .before .before .before .if1 .left in
-    let e = rw (c .before .before .before .load-parser .ensures) at (sym (c .before .fits2 .ensures) ∙ not-true _ (c .if3 .taken)) in
+    let args = c .before .before .before .before .before .before .before .before .before .before .before .before .args in
+    let if1 = c .before .before .before .before .before .before .before .before .if1 in
+    let load-parser = c .before .before .before .load-parser in
+    let a = args in
+    let h = if1 .left in
+    let e = rw (load-parser .ensures) at (sym (c .before .fits2 .ensures) ∙ not-true _ (c .if3 .taken)) in
     let g = ap (λ (x : Step). isUnfit (x .answer)) (no-fit (a .doc .now) (parserIn (a .state .now)) h e) in
     promised (unfit _ _ _ _ _ h (rw (g, and-false)))
 
@@ -111,8 +119,10 @@ slice-aggregate-step-in c = search needs
 -- src/rows.rt:67:9
 step-in-requires : tie.Need-step-in-requires
 step-in-requires c κs =
-    let a = c .before .before .before .before .before .before .before .before .before .before .before .before .before .before .before .before .args in (
-      c .before .before .before .before .before .before .before .before .before .before .before .before .if1 .left,
+    let args = c .before .before .before .before .before .before .before .before .before .before .before .before .before .before .before .before .args in
+    let if1 = c .before .before .before .before .before .before .before .before .before .before .before .before .if1 in
+    let a = args in (
+      if1 .left,
       (
         omega (arith, c .before .before .store-parser .kept),
         (
@@ -130,8 +140,9 @@ same-length-3 c = search needs
 returns-4 : tie.Need-returns-4
 unfolding parseBatchOf
 returns-4 c =
+    let if1 = c .before .before .before .before .before .before .before .before .before .before .before .before .before .before .before .before .if1 in
     let e = unfit-is _ (sym (number (c .before .before .before)) ∙ c .if4 .taken) in
-    promised (unfit _ _ _ _ _ (c .before .before .before .before .before .before .before .before .before .before .before .before .before .before .before .before .if1 .left) (rw (e, and-false)))
+    promised (unfit _ _ _ _ _ (if1 .left) (rw (e, and-false)))
 
 -- src/rows.rt:71:5
 store-parser-requires-2 : tie.Need-store-parser-requires-2
@@ -140,10 +151,12 @@ store-parser-requires-2 c κs = has-213 _ (read (c .before .before .before .befo
 -- src/rows.rt:72:5
 take-rows-requires : tie.Need-take-rows-requires
 take-rows-requires c κs =
+    let store-parser2 = c .before .before .before .before .store-parser2 in
+    let if1 = c .before .before .before .before .before .before .before .before .before .before .before .before .before .before .before .before .before .before .before .before .before .before .if1 in
     let k = c .before .before .before .before .before .before .before .before .before .before .before .before .before .before .before .before .before in
-    let q = c .before .before .before .before .store-parser2 .ensures in
+    let q = store-parser2 .ensures in
     let e = stood-state _ (slots k) (sections k) _ _ q ∙ k .load-parser .ensures in
-    (c .before .before .before .before .before .before .before .before .before .before .before .before .before .before .before .before .before .before .before .before .before .before .if1 .left, (omega (arith, has-213 _ (read (c .before .before .before .before .before .before .before .before .before .before .before .before .before .before .before .before .before .before .before)), c .before .before .before .before .store-parser2 .kept), (stood-words _ (slots k) (sections k) _ _ q, rw e (fitting (c .before .before .before .before .before .before .before .before .before .before .before .before .before .before)))))
+    (if1 .left, (omega (arith, has-213 _ (read (c .before .before .before .before .before .before .before .before .before .before .before .before .before .before .before .before .before .before .before)), store-parser2 .kept), (stood-words _ (slots k) (sections k) _ _ q, rw e (fitting (c .before .before .before .before .before .before .before .before .before .before .before .before .before .before)))))
 
 -- src/rows.rt:49:1
 same-length-4 : tie.Need-same-length-4
@@ -157,12 +170,16 @@ same-length-5 c = search needs
 returns-5 : tie.Need-returns-5
 unfolding parseBatchOf
 returns-5 c =
+    let store-parser2 = c .before .before .before .before .before .before .before .before .before .store-parser2 in
+    let if4 = c .before .before .before .before .before .before .before .before .before .before .before .if4 in
+    let if1 = c .before .before .before .before .before .before .before .before .before .before .before .before .before .before .before .before .before .before .before .before .before .before .before .before .before .before .before .if1 in
+    let take-rows = c .before .before .before .before .take-rows in
     let k = c .before .before .before .before .before .before .before .before .before .before .before .before .before .before .before .before .before .before .before .before .before .before in
-    let p = c .before .before .before .before .before .before .before .before .before .store-parser2 .ensures in
+    let p = store-parser2 .ensures in
     let e = stood-state _ (slots k) (sections k) _ _ p ∙ k .load-parser .ensures in
-    let f = unfit-not _ (λ z. c .before .before .before .before .before .before .before .before .before .before .before .if4 .left (number (c .before .before .before .before .before .before .before .before .before .before .before .before .before .before) ∙ z)) in
-    let q = promised (took _ _ _ _ (c .before .before .before .before .before .before .before .before .before .before .before .before .before .before .before .before .before .before .before .before .before .before .before .before .before .before .before .if1 .left) (read (c .before .before .before .before .before .before .before .before .before .before .before .before .before .before .before .before .before .before .before .before .before .before .before .before)) (ap not f)) in
-    let r = rw (e, stood-rest _ (slots k) (sections k) _ _ p) at (c .before .before .before .before .take-rows .ensures) in
+    let f = unfit-not _ (λ z. if4 .left (number (c .before .before .before .before .before .before .before .before .before .before .before .before .before .before) ∙ z)) in
+    let q = promised (took _ _ _ _ (if1 .left) (read (c .before .before .before .before .before .before .before .before .before .before .before .before .before .before .before .before .before .before .before .before .before .before .before .before)) (ap not f)) in
+    let r = rw (e, stood-rest _ (slots k) (sections k) _ _ p) at (take-rows .ensures) in
     (r .0 ∙ q .0, (r .1 .0 ∙ q .1 .0, r .1 .1 ∙ q .1 .1))
 
 pub parse-spec : {M : Type 1} → statement M

@@ -48,7 +48,9 @@ same-length c = let m = c .before .before .before .before in m .step-in .kept .1
 
 -- src/rows.rt:35:13
 same-length-2 : tie.Need-same-length-2 Inv-loop μ-loop
-same-length-2 c = c .before .before .before .before .before .before .before .loop .inv .1 .0
+same-length-2 c =
+    let loop-here = c .before .before .before .before .before .before .before .loop in
+    loop-here .inv .1 .0
 
 -- src/rows.rt:35:13
 returns : tie.Need-returns Inv-loop μ-loop
@@ -62,7 +64,9 @@ same-length-3 c = let m = c .before .before .before .before .before .before in m
 
 -- src/rows.rt:38:13
 same-length-4 : tie.Need-same-length-4 Inv-loop μ-loop
-same-length-4 c = c .before .before .before .before .before .before .before .before .before .loop .inv .1 .0
+same-length-4 c =
+    let loop-here = c .before .before .before .before .before .before .before .before .before .loop in
+    loop-here .inv .1 .0
 
 -- src/rows.rt:38:13
 returns-2 : tie.Need-returns-2 Inv-loop μ-loop

@@ -44,7 +44,9 @@ shared-slice-read-t15 c = search needs
 
 -- src/steps.rt:67:1
 returns-2 : tie.Need-returns-2
-returns-2 c = rw (ne-eqb _ 11 (c .before .before .before .before .before .before .if1 .left))
+returns-2 c =
+    let if1 = c .before .before .before .before .before .before .if1 in
+    rw (ne-eqb _ 11 (if1 .left))
 
 pub kept-said-spec : {M : Type 1} → statement M
 kept-said-spec =

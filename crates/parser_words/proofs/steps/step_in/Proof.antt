@@ -52,7 +52,9 @@ fits c = begin c .pre .1 .1 .1
 
 goes : (c : tie.After-slice-known4) → parserIn (words c) .refused ≡ false
 unfolding parserIn
-goes c = ne-eqb _ 1 (c .before .before .before .before .before .before .before .if1 .left)
+goes c =
+    let if1 = c .before .before .before .before .before .before .before .if1 in
+    ne-eqb _ 1 (if1 .left)
 
 abbrev said : tie.After-slice-known4 → Said
 said c = cameIn (doc c) (words c) .said
@@ -61,8 +63,9 @@ said c = cameIn (doc c) (words c) .said
 made : (c : tie.After-slice-known4)
     → outcomeBy (c .before .before .judged .result) (c .before .before .before .before .before .came .result .said) (getD (words c) 138 0) (getD (words c) 139 0) ≡ leftBy (words c) (said c)
 made c =
-    ap (λ v. outcomeBy v (c .before .before .before .before .before .came .result .said) (getD (words c) 138 0) (getD (words c) 139 0)) (c .before .before .judged .ensures)
-    ∙ ap (λ (m : Advanced). leftBy (words c) (m .said)) (c .before .before .before .before .before .came .ensures)
+    let came = c .before .before .before .before .before .came in
+    ap (λ v. outcomeBy v (came .result .said) (getD (words c) 138 0) (getD (words c) 139 0)) (c .before .before .judged .ensures)
+    ∙ ap (λ (m : Advanced). leftBy (words c) (m .said)) (came .ensures)
 
 answers : (c : tie.After-slice-known4) → leftBy (words c) (said c) .answer ≡ saidBy (valuesOf (stepOf (doc c) (parserIn (words c)) .answer))
 answers c = answer-is (doc c) (words c) (begin c .pre .0) (begin c .pre .1 .0) (begin c .pre .1 .1 .0) (fits c) (goes c)

@@ -48,7 +48,9 @@ same-length c = let m = c .before .before .before .before in m .step-in .kept .1
 
 -- src/rows.rt:81:13
 same-length-2 : tie.Need-same-length-2 Inv-loop μ-loop
-same-length-2 c = c .before .before .before .before .before .before .before .loop .inv .1 .0
+same-length-2 c =
+    let loop-here = c .before .before .before .before .before .before .before .loop in
+    loop-here .inv .1 .0
 
 -- src/rows.rt:81:13
 returns : tie.Need-returns Inv-loop μ-loop

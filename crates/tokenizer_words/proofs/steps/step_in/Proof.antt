@@ -60,9 +60,10 @@ same-length-2 c = search needs
 returns-2 : tie.Need-returns-2
 unfolding steppedIn
 returns-2 c =
+    let if1 = c .before .before .before .before .if1 in
     let m = c .before .before .before .before .before .before .before in
     let a = begin m in
-    let e = sym (ends m) ∙ ne-eqb _ _ (c .before .before .before .before .if1 .left) in
+    let e = sym (ends m) ∙ ne-eqb _ _ (if1 .left) in
     let w = a .args .w .now in
     (said m, rw e (c .before .before .commit .ensures ∙ ap (λ x. committed x w) (m .ahead .ensures) ∙ step-committed (a .args .doc .now) w (a .pre .0) (a .pre .1 .0) (a .pre .1 .1)))
 
