@@ -1,4 +1,4 @@
--- Demand 3, clause 2: a token of a style unescapes alike in P then S and, unraised, in P or S alone. Its text's bytes are the
+-- Demand 3, clause 2: a token of a reading unescapes alike in P then S and, unraised, in P or S alone. Its text's bytes are the
 -- same, so its meaning is; only the place and the line at which it is delivered differ.
 use Prim.Native.Nat.{ℕ, suc, _+_, _-_, _≤_}
 use mathlib.Core.Path.{_≡_, refl, sym, ap, _∙_}
@@ -66,13 +66,13 @@ use Rattle.joining_claims.specs.Joined.{EachToken}
 use Rattle.joining_claims.specs.Never13.{Not13, Never13}
 use Rattle.joining_claims.proofs.Places.{part-above, part-below}
 
--- A token of a style is sound, so it is delivered
+-- A token of a reading is sound, so it is delivered
 
 text-sound : (d : List ℕ) (q : Part) → Text d q → sound d q ≡ true
 unfolding sound
 text-sound d q t = rw (le-leb (q .start) (q .end) (t .within .starts), le-leb (q .end) (length d) (t .within .ends), t .valid)
 
--- the empty part is a text, so every token of a style has a text and an indentation
+-- the empty part is a text, so every token of a reading has a text and an indentation
 none-text : (d : List ℕ) → Text d noPart
 unfolding utf8 owes
 none-text d = record { within = record { starts = omega arith; ends = omega arith }; valid = refl }
@@ -291,7 +291,7 @@ module _ (p s : List ℕ) where
       l
   token-below j (NoValue m) l f = absurd f
 
--- every token of a style fits
+-- every token of a reading fits
 pub each-token : (d : List ℕ) (F : Token → Type 0) → ((t : Token) → TokenFits d t → F t) → (l : List Came) → All (Fits d) l → EachToken F l
 each-token d F h [] a = tt
 each-token d F h (came.End ∷ l) a = absurd (a .0)

@@ -1,13 +1,11 @@
 -- One step in place is the parser's step.
-use Prim.Native.Nat.{ℕ, _+_, _≤_, _<_}
+use Prim.Native.Nat.{ℕ, _≤_}
 use mathlib.Core.Path.{_≡_, refl, sym, ap, subst, _∙_}
-use mathlib.Core.List.{List, _∷_, _++_}
+use mathlib.Core.List.{List, _++_}
 use mathlib.Core.Bool.{true, false}
 use native.Mathlib.Omega.{arith}
-use lib.Dec.{eqb}
 use lib.ListN.{length, drop, getD}
 use borrow.Author.Tests.{ne-eqb}
-use Rattle.tokenizer.specs.Token.{tokenValues}
 use Rattle.tokenizer.specs.Token.{valuesOf as cameValues}
 use Rattle.tokenizer.specs.Step.{fit}
 use Rattle.tokenizer.specs.Front.{saidBy}
@@ -20,25 +18,21 @@ use Rattle.parser_rules.specs.declared.ruling.Answer.{Answer}
 use Rattle.parser_rules.specs.declared.ruling.Answer.the-variants as answer
 use Rattle.parser_rules.specs.declared.ruling.Ruling.{Ruling}
 use Rattle.parser_rules.specs.declared.ruling.Ruling.the-variants.{Says, End, Unfit}
-use Rattle.parser.specs.Step.{innermostOf, fullOf, ChangeFits, sectionsAfter, afterVerdict, onRuling, stepWith, cameOf, stepKept, stepOf}
-use Rattle.parser_rules.specs.declared.ruling.Change.{Change}
-use Rattle.parser_rules.specs.declared.ruling.Change.the-variants as change
+use Rattle.parser.specs.Step.{innermostOf, fullOf, ChangeFits, onRuling, stepWith, cameOf, stepKept, stepOf}
 use Rattle.parser.specs.declared.state.State.{State}
-use Rattle.parser.specs.declared.state.Section.{Section}
-use Rattle.parser.specs.declared.state.Step.{Step}
 use Rattle.parser.proofs.Sections.{Asks, asks-no-more}
 use Rattle.parser.proofs.Steps.{goes-on}
 use Rattle.tokenizer_words.specs.Words.{wordsOf, stateIn, committed}
 use Rattle.tokenizer_words.proofs.Walking.{slots-64}
-use Rattle.parser_words.specs.ParserWords.{sortWords, keptWords, middleWords, parserWords, parserIn}
+use Rattle.parser_words.specs.ParserWords.{middleWords, parserWords, parserIn}
 use Rattle.parser_words.specs.Parsing.{isUnfit, isStop}
 use Rattle.parser_words.specs.Stepping.{cameIn, sortAt, judgedIn, outcomeBy, outcomeIn}
 use Rattle.parser_words.specs.declared.steps.Outcome.{Outcome}
 use Rattle.parser_words.proofs.Sorts.{sections-length}
-use Rattle.parser_words.proofs.Back.{all-words, behind-137, number-at, line-at, kept-at, count-word, sorts-at}
+use Rattle.parser_words.proofs.Back.{kinds, all-words, behind-137, number-at, line-at, kept-at, count-word, sorts-at}
 use Rattle.parser_words.proofs.Agreeing.{Leaves, agrees}
 use Rattle.parser_words.proofs.Putting.{moved, put-is}
-use Rattle.parser_words.proofs.Coming.{kinds, sort-is, Comes, comes}
+use Rattle.parser_words.proofs.Coming.{sort-is, Comes, comes}
 
 -- the answers that stop, by their numbers
 pub zero-stops : (a : Answer) → valuesOf a .number ≡ 0 → isStop a ≡ true

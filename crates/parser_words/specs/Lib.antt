@@ -1,3 +1,4 @@
 pub mod ParserWords
 pub mod Parsing
 pub mod Stepping
+pub mod Claims

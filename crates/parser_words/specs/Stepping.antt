@@ -2,9 +2,9 @@
 -- leaves in the words. proofs/Going shows that it is the law's step.
 use Prim.Native.Nat.{ℕ, zero, suc, _+_}
 use mathlib.Core.List.{List, [], _∷_, _++_}
-use mathlib.Core.Bool.{Bool, true, false, cond}
+use mathlib.Core.Bool.{true, false, cond}
 use lib.Dec.{eqb, leb, ltb}
-use lib.ListN.{length, getD, set, drop}
+use lib.ListN.{getD, set, drop}
 use Rattle.text.specs.Numbers.{missingMultiline, unfitState}
 use Rattle.tokenizer.specs.Token.{bare, refusalNumber}
 use Rattle.tokenizer.specs.Step.{noPart}

@@ -1,13 +1,12 @@
 -- A state that stands in words: slots are read and written where they stand, and the state is read back.
 use Prim.Native.Nat.{ℕ, zero, suc, _+_, _*_, _≤_, _<_}
-use mathlib.Core.Path.{_≡_, refl, sym, ap, _∙_}
+use mathlib.Core.Path.{_≡_, refl, ap, _∙_}
 use mathlib.Core.List.{List, [], _∷_, _++_, append-assoc}
 use mathlib.Core.Bool.{Bool, true, false, cond}
-use native.Mathlib.Numerals.{add-one}
 use native.Mathlib.Omega.{arith}
 use lib.Dec.{eqb, eqb·suc-zero}
 use lib.ListN.{length, take, drop, getD, set, length-append, length-drop}
-use lib.Seq.{getD-drop, drop-drop, take-append-add, drop-append-add, drop-at}
+use lib.Seq.{getD-drop, drop-drop, take-append-add, drop-append-add}
 use Rattle.text.specs.declared.bytes.Part.{Part}
 use types.Run.{OneOf, miss}
 use denote.Enum.Declared.{tagOf}
@@ -143,7 +142,7 @@ unfolding heldWords
 held-back Nothing = refl
 held-back (At p) = refl
 
-eqb-flag : (b : Bool) → eqb (flag b) 1 ≡ b
+pub eqb-flag : (b : Bool) → eqb (flag b) 1 ≡ b
 unfolding flag
 eqb-flag true = refl
 eqb-flag false = refl

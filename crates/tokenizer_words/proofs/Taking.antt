@@ -11,12 +11,12 @@ use Rattle.tokenizer_words.specs.Words.{pasted, pastedIn}
 use Rattle.tokenizer_words.specs.Rows.{rowOf, rowsOf, rowsIn, Steps, Taken, taken}
 use Rattle.tokenizer_words.proofs.Pasting.{pasted-room, pasted-after}
 
-rows-append : (l m : List Values) → rowsOf (l ++ m) ≡ rowsOf l ++ rowsOf m
+pub rows-append : (l m : List Values) → rowsOf (l ++ m) ≡ rowsOf l ++ rowsOf m
 unfolding rowsOf
 rows-append [] m = refl
 rows-append (v ∷ l) m = rw (rows-append l m)
 
-rows-length : (l : List Values) → length (rowsOf l) ≡ 7 * length l
+pub rows-length : (l : List Values) → length (rowsOf l) ≡ 7 * length l
 unfolding rowsOf
 rows-length [] = refl
 rows-length (v ∷ l) = omega (arith, rows-length l)

@@ -3,35 +3,19 @@ use Prim.Native.Nat.{ℕ, _+_, _*_, _≤_, _<_}
 use mathlib.Core.Path.{_≡_, refl, sym, ap, _∙_}
 use mathlib.Core.List.{List, _++_}
 use mathlib.Core.Bool.{true, false}
-use lib.ListN.{length, drop, length-set}
+use lib.ListN.{length, drop}
 use lib.Seq.{drop-at}
-use Rattle.text.specs.declared.bytes.Part.{Part}
-use Rattle.tokenizer_rules.specs.declared.plan.Change.{Change}
-use Rattle.tokenizer_rules.specs.declared.plan.Change.the-variants.{Keep, Open, Close, Hold}
 use Rattle.tokenizer.specs.Token.{valuesOf}
-use Rattle.tokenizer.specs.Step.{innerOf, indentsAfter, fit, stepOf}
-use Rattle.tokenizer.specs.Front.{frontOf, advancedOf}
+use Rattle.tokenizer.specs.Step.{fit, stepOf}
 use Rattle.tokenizer.specs.Lists.{isEnd}
 use Rattle.tokenizer.specs.declared.state.State.{State}
 use Rattle.tokenizer.proofs.Kept.{step-fit}
-use Rattle.tokenizer.proofs.Advancing.{step-indents}
 use Rattle.tokenizer_words.specs.Words.{pastedIn, wordsOf, stateIn, steppedIn}
 use Rattle.tokenizer_words.specs.Rows.{rowOf, rowsIn, taken, tokenizing}
 use Rattle.tokenizer_words.proofs.Slots.{parts-length, words-137}
 use Rattle.tokenizer_words.proofs.Standing.{state-back}
+use Rattle.tokenizer_words.proofs.Slotted.{step-slots}
 use Rattle.tokenizer_words.proofs.Taking.{Turn, All, start, next, at-end, full}
-
-indents-length : (c : Change) (i : Part) (is : List Part) (n : ℕ) → length (indentsAfter c i is n) ≡ length is
-indents-length Keep i is n = refl
-indents-length Open i is n = length-set is n i
-indents-length Close i is n = refl
-indents-length Hold i is n = refl
-
--- a step keeps the number of slots
-pub step-slots : (d : List ℕ) (s : State) → length d ≤ 16777216 → fit (length d) s ≡ true → length (stepOf d s .state .indents) ≡ length (s .indents)
-step-slots d s l e =
-    let a = advancedOf d (frontOf s) (innerOf (s .indents) (s .depth)) in
-    ap length (step-indents d s l e) ∙ indents-length (a .change) (a .indent) (s .indents) (s .depth)
 
 -- n steps were taken from the state in w₀: the state after them stands in w, and their rows in rows
 pub record Stands (d rows₀ rows : List ℕ) (room n : ℕ) (w₀ w : List ℕ) : Type 0 where
@@ -74,14 +58,11 @@ module _ (d : List ℕ) (rows₀ : List ℕ) (room : ℕ) (w₀ : List ℕ) wher
     unfolding steppedIn
     goes-on l h k e q p =
         let t = stepOf d (s .state) .state in
-        let a = advancedOf d (frontOf (s .state)) (innerOf (s .state .indents) (s .state .depth)) in
-        let v : length (t .indents) ≡ 64 =
-        ap length (step-indents d (s .state) l (s .fits)) ∙ indents-length (a .change) (a .indent) (s .state .indents) (s .state .depth) ∙ s .slots in
         let r : drop 137 w ≡ drop 137 w₀ = ap (drop 137) (s .words) ∙ drop-at (wordsOf (s .state)) (drop 137 w₀) 137 (words-137 (s .state) (s .slots)) in
         record {
           state = t;
           words = rw (e, reads, r) at q;
-          slots = v;
+          slots = step-slots d (s .state) ∙ s .slots;
           fits = step-fit d (s .state) l (s .fits);
           turn = next _ _ _ _ (s .turn) h k (rw reads at e) (rw reads at p) refl;
         }

@@ -5,3 +5,5 @@ pub mod Writing
 pub mod Delivery
 pub mod Ruling
 pub mod Examples
+pub mod Entries
+pub mod Shorter

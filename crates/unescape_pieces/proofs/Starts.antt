@@ -1,4 +1,4 @@
--- What a text's style begins with is its meaning: a part of it, or the pieces from a place on.
+-- What the reading of a text begins with is its meaning: a part of it, or the pieces from a place on.
 use Prim.Native.Nat.{ℕ, zero, suc, _+_, _-_, _≤_}
 use mathlib.Core.Path.{_≡_, refl, sym, ap, ap₂, subst, _∙_}
 use mathlib.Core.List.{List, [], _∷_}

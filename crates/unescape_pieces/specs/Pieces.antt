@@ -102,7 +102,7 @@ meaningFrom FirstLine indent s n = bytes (joinedLines indent (linesIn s))
 meaningFrom LaterLine indent s n = bytes (laterFrom indent (linesIn s))
 meaningFrom Break indent s n = bytes (laterLines indent (linesAfter s))
 
--- what a text's style begins with: a key or a value
+-- what the reading of a text begins with: a key or a value
 unfoldable pub entryStart : List ℕ → Start
 entryStart [] = Plain 0 0
 entryStart (b ∷ r) =
