@@ -31,7 +31,7 @@ use Rattle.tokenizer.specs.declared.token.Token.the-variants.{
 use Rattle.tokenizer.specs.declared.state.Answer.{Answer as Came}
 use Rattle.tokenizer.specs.declared.state.Answer.the-variants as came
 use Rattle.tokenizer_claims.specs.Claims.{Text, TokenFits, Fits, All}
-use Rattle.tokenizer_claims.proofs.Claimed.{fit as style-fit}
+use Rattle.tokenizer_claims.proofs.Claimed.{fit as reading-fit}
 use Rattle.text.specs.Bytes.{countWhile, notBreak, shiftedBy}
 use Rattle.text.specs.Scalar.{isScalar, encoding}
 use Rattle.unescape_pieces.specs.Codes.{codeOf, simpleOf}
@@ -314,4 +314,4 @@ token-not13 d t l f o =
     (meaning-proper (sourceOf t .style) s (bytesOf d (sourceOf t .indent))))
 
 pub never13 : Never13
-never13 d l = each-token d _ (λ t f. token-not13 d t l f) (tokens d) (style-fit d l)
+never13 d l = each-token d _ (λ t f. token-not13 d t l f) (tokens d) (reading-fit d l)

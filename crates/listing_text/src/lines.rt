@@ -1,9 +1,9 @@
 // The listing's rows, and the listing.
 use crate::writing::put_number;
 use crate::writing::put_text;
+use parser::Answer;
 use parser::State;
 use parser::Step;
-use parser_rules::Answer;
 use tokenizer::Token;
 use tokenizer_words::token_row;
 ghost use mathlib.Core.Path.{_≡_};

@@ -1,7 +1,7 @@
 // The look-up: one pass over the parser's answers.
+use parser::Answer;
 use parser::State;
 use parser::Step;
-use parser_rules::Answer;
 use text::Part;
 use tokenizer::Token;
 ghost use mathlib.Core.Path.{_≡_};

@@ -1,9 +1,9 @@
 // A parser's state in the words of a lent slice, in the order of specs/ParserWords.
+use parser::Awaited;
+use parser::Kept;
 use parser::Section;
+use parser::Sort;
 use parser::State;
-use parser_rules::Awaited;
-use parser_rules::Kept;
-use parser_rules::Sort;
 use text::Part;
 use tokenizer::Token;
 use tokenizer_words::bare_row;

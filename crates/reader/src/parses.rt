@@ -1,6 +1,6 @@
 // The parser's step over a state that the caller lends.
+use parser::Answer;
 use parser::State;
-use parser_rules::Answer;
 ghost use mathlib.Core.Path.{_≡_};
 ghost use Rattle.parser_rules.specs.Ruling.{valuesOf};
 ghost use Rattle.parser.specs.Step.{stepOf};

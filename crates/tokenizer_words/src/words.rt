@@ -1,8 +1,8 @@
 // A state in the words of a lent slice, in the order of specs/Words.
 use text::Part;
 use tokenizer::Held;
+use tokenizer::Marks;
 use tokenizer::State;
-use tokenizer_rules::Marks;
 ghost use mathlib.Core.Path.{_≡_};
 ghost use Prim.Native.Nat.{_≤_};
 ghost use lib.Dec.{leb};
