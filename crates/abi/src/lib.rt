@@ -6,9 +6,9 @@ ghost use lib.Dec.{leb};
 ghost use lib.ListN.{length};
 ghost use Rattle.text.specs.Utf8.{utf8};
 ghost use Rattle.text.specs.Trimming.{dropped, trimmed};
-ghost use Rattle.tokenizer_words.specs.Words.{freshIn};
+ghost use Rattle.tokenizer_words.specs.Words.{tokenizerSize, freshIn};
 ghost use Rattle.tokenizer_words.specs.Rows.{batchOf};
-ghost use Rattle.parser_words.specs.ParserWords.{freshParserIn};
+ghost use Rattle.parser_words.specs.ParserWords.{parserSize, freshParserIn};
 ghost use Rattle.parser_words.specs.Parsing.{parseBatchOf};
 ghost use Rattle.answer_words.specs.Texts.{textOf};
 ghost use Rattle.answer_words.specs.Found.{foundIn};
@@ -63,7 +63,7 @@ pub extern "C" fn conl_trim(s: &[u8], breaks: bool, part: &mut [usize]) -> bool
 // fewer than 137.
 #[no_mangle]
 pub extern "C" fn conl_fresh_tokenizer(state: &mut [usize]) -> bool
-    ensures { λ r. ⌜ r ≡ leb 137 (length (now (state .entry))) ⌝ }
+    ensures { λ r. ⌜ r ≡ leb tokenizerSize (length (now (state .entry))) ⌝ }
     ensures { λ r. ⌜ now (state .exit) ≡ freshIn (now (state .entry)) ⌝ }
 {
     tokenizer_words::fresh(state)
@@ -84,7 +84,7 @@ pub extern "C" fn conl_tokenize(doc: &[u8], state: &mut [usize], rows: &mut [usi
 // fewer than 213.
 #[no_mangle]
 pub extern "C" fn conl_fresh_parser(state: &mut [usize]) -> bool
-    ensures { λ r. ⌜ r ≡ leb 213 (length (now (state .entry))) ⌝ }
+    ensures { λ r. ⌜ r ≡ leb parserSize (length (now (state .entry))) ⌝ }
     ensures { λ r. ⌜ now (state .exit) ≡ freshParserIn (now (state .entry)) ⌝ }
 {
     parser_words::fresh_parser(state)

@@ -7,7 +7,7 @@ use mathlib.Core.Bool.{Bool, true, false, cond, not, _||_}
 use native.Mathlib.Omega.{arith}
 use lib.Dec.{ltb}
 use lib.ListN.{length}
-use borrow.Author.Tests.{ltb-false, not-true}
+use borrow.Author.Tests.{ltb-false}
 use Rattle.text.proofs.Cases.{by-bool, clash}
 use Rattle.tokenizer.specs.Lists.{tokens}
 use Rattle.tokenizer.specs.declared.state.Answer.the-variants as came
@@ -48,8 +48,7 @@ module _ (d : List ℕ) (h : length d ≤ 16777216) (f : refusedIn (parse d) ≡
 
 pub one-sort : OneSort
 unfolding parse refusedIn
-one-sort d a =
-    let f = not-true (refusedIn (parse d)) a in
+one-sort d f =
     by-bool (ltb 16777216 (length d))
     (λ e. absurd (clash (rw e at f)))
     (λ e. by-bool (fed freshStand (tokens d) .goesOn) (going d (ltb-false _ _ e) f) (λ g. absurd (stopped d (ltb-false _ _ e) f g)))

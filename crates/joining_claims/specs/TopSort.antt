@@ -3,9 +3,8 @@
 use Prim.Native.Nat.{ℕ}
 use mathlib.Core.Path.{_≡_}
 use mathlib.Core.List.{List, [], _∷_}
-use mathlib.Core.Bool.{true}
 use Rattle.tokenizer.specs.declared.token.Token.{Token}
-use Rattle.parser.specs.Lists.{parse, accepted, topEntries, entrySort, topSort}
+use Rattle.parser.specs.Lists.{parse, Accepted, topEntries, entrySort, topSort}
 use Rattle.parser_rules.specs.declared.ruling.Sort.{Sort}
 
 -- every entry of a list is of the sort s
@@ -14,4 +13,4 @@ OfSort s [] = Unit {0}
 OfSort s (t ∷ l) = (entrySort t ≡ s) × OfSort s l
 
 abbrev pub OneSort : Type 0
-OneSort = (d : List ℕ) → accepted d ≡ true → OfSort (topSort (parse d)) (topEntries 0 0 (parse d))
+OneSort = (d : List ℕ) → Accepted d → OfSort (topSort (parse d)) (topEntries 0 0 (parse d))

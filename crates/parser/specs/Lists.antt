@@ -4,7 +4,7 @@
 use Prim.Native.Nat.{ℕ, zero, suc, _*_, _≤_, _<_}
 use mathlib.Core.Path.{_≡_}
 use mathlib.Core.List.{List, [], _∷_, _++_}
-use mathlib.Core.Bool.{Bool, true, false, cond, not}
+use mathlib.Core.Bool.{Bool, true, false, cond}
 use lib.Dec.{eqb, ltb}
 use lib.ListN.{length}
 use Rattle.text.specs.Numbers.{maxDocument, tooLong, unfitState}
@@ -122,9 +122,6 @@ refusedIn [] = false
 refusedIn (answer.End ∷ l) = refusedIn l
 refusedIn (answer.Token t ∷ l) = refusedIn l
 refusedIn (answer.Refused n m ∷ l) = true
-
-abbrev pub accepted : List ℕ → Bool
-accepted d = not (refusedIn (parse d))
 
 abbrev pub Accepted : List ℕ → Type 0
 Accepted d = refusedIn (parse d) ≡ false
