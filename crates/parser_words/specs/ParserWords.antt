@@ -2,7 +2,7 @@
 -- tokenizer's 137; whether it has refused (0 or 1); what is awaited (0 nothing, 1 a value, 2 a multiline value) with
 -- its line; a row for what is kept (number 0 for nothing, 11 for End); the number of open sections, and the sort of
 -- each of the 65 (0 unset, 1 map, 2 list). 213 words. proofs/Back shows that the state is read back from them.
-use Prim.Native.Nat.{ℕ, zero, suc}
+use Prim.Native.Nat.{ℕ, zero, suc, _+_}
 use mathlib.Core.List.{List, [], _∷_, _++_}
 use mathlib.Core.Bool.{Bool, true, cond, _&&_}
 use lib.Dec.{eqb, leb}
