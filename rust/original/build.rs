@@ -8,16 +8,18 @@ const USUAL: &str = "../../../shared/docs/src/src/lib.rs";
 
 fn main() {
     println!("cargo::rerun-if-env-changed=CONL_ORIGINAL");
+    let here = PathBuf::from(env::var_os("CARGO_MANIFEST_DIR").expect("cargo runs this script"));
     let path = env::var_os("CONL_ORIGINAL").map_or(USUAL.into(), PathBuf::from);
-    let file = Path::new(env!("CARGO_MANIFEST_DIR")).join(path);
-    let file_name = file.display();
-    println!("cargo::rerun-if-changed={file_name}");
+    let file = here.join(&path);
+    println!("cargo::rerun-if-changed={}", path.display());
     if file.is_file() {
-        println!("cargo::rustc-env=CONL_ORIGINAL_FILE={file_name}");
+        // Seen from src/, so that a copy of the tree looks at its own; a whole path stays what it is.
+        let path = Path::new("..").join(path);
+        println!("cargo::rustc-env=CONL_ORIGINAL_FILE={}", path.display());
     } else {
         println!(
-            "cargo::error=the original's source file {file_name} is missing: \
-             set CONL_ORIGINAL to its path"
+            "cargo::error=the original's source file {} is missing: set CONL_ORIGINAL to its path",
+            file.display()
         );
     }
 }

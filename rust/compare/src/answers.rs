@@ -120,7 +120,8 @@ fn shown<'a>(text: &'a str, message: &str) -> &'a str {
     &shortest[passed.len()..]
 }
 
-fn number_of(message: &str) -> usize {
+/// The number of a refusal whose message is this.
+pub fn number_of(message: &str) -> usize {
     match message {
         "invalid UTF-8" => 1,
         "characters after quotes" => 2,

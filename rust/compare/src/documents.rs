@@ -170,6 +170,12 @@ fn nested(random: &mut Random, depth: usize, steps: &[&str]) -> Vec<u8> {
     }
 }
 
+/// Sections within sections, so many, each indented by one more `step`, and an entry in the innermost.
+pub fn deep(depth: usize, step: &str) -> Vec<u8> {
+    let lines = (0..=depth).map(|indents| step.repeat(indents) + "a\n");
+    lines.collect::<String>().into_bytes()
+}
+
 fn at_limit(each: &mut impl FnMut(&[u8])) {
     for text in REPEATED {
         for len in [LIMIT - 1, LIMIT, LIMIT + 1] {

@@ -25,7 +25,8 @@ pub fn compare(tally: &mut Tally, document: &[u8]) {
         let found = |wanted: &Vec<u8>| (wanted.clone(), port::look_up(document, wanted));
         answers.iter().map(|(wanted, _)| found(wanted)).collect()
     };
-    for (_, found) in tally.compare_each(document, by_original, [("port", port)]) {
+    let rust = |document: &[u8]| by_original(document, usize::MAX);
+    for (_, found) in tally.compare_each(document, rust, [("port", port)]) {
         tally.saw(match found {
             Found::Nothing => "nothing",
             Found::At { range, .. } if range.end < document.len() => "found, up to a key",
@@ -35,12 +36,13 @@ pub fn compare(tally: &mut Tally, document: &[u8]) {
     }
 }
 
-/// What is found by the original's answers, for each key that is wanted.
-fn by_original(document: &[u8]) -> Vec<Answer> {
+/// What is found by the original's answers, for each of up to `most` keys that are wanted.
+pub fn by_original(document: &[u8], most: usize) -> Vec<Answer> {
     let rows = within_limits(document, parses);
     let keys = keys(&rows);
     wanted(document, &keys)
         .into_iter()
+        .take(most)
         .map(|wanted| (wanted.to_vec(), found(document, &rows, &keys, wanted)))
         .collect()
 }
@@ -60,17 +62,18 @@ fn keys(rows: &[Row]) -> Vec<(Row, bool)> {
     keys
 }
 
-/// Every top-level key, a nested one that is no top-level one too, and an absent one.
-fn wanted<'doc>(document: &'doc [u8], keys: &[(Row, bool)]) -> BTreeSet<&'doc [u8]> {
+/// An absent key, a nested one that is no top-level one too, and every top-level one.
+fn wanted<'doc>(document: &'doc [u8], keys: &[(Row, bool)]) -> Vec<&'doc [u8]> {
     let texts = |top_level: bool| {
         keys.iter()
             .filter(move |(_, top)| *top == top_level)
             .map(|(key, _)| &document[key.start..key.end])
     };
-    let mut wanted: BTreeSet<_> = texts(true).collect();
-    let nested = texts(false).find(|key| !wanted.contains(key));
+    let top_level: BTreeSet<_> = texts(true).collect();
+    let nested = texts(false).find(|key| !top_level.contains(key));
+    let mut wanted = vec![ABSENT];
     wanted.extend(nested);
-    wanted.insert(ABSENT);
+    wanted.extend(top_level);
     wanted
 }
 

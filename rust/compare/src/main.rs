@@ -6,7 +6,9 @@ mod answers;
 mod comment;
 mod documents;
 mod ends;
+mod files;
 mod joined;
+mod listings;
 mod look_ups;
 mod parses;
 mod random;
@@ -20,6 +22,7 @@ mod trimming;
 mod unescaping;
 mod utf8;
 mod vectors;
+mod ways;
 
 use crate::documents::Extent;
 use crate::joined::Joined;
@@ -28,6 +31,7 @@ use crate::tally::Tally;
 use conl::port::Trim;
 use std::env;
 use std::ffi::OsString;
+use std::path::{Path, PathBuf};
 use std::process::ExitCode;
 
 const USAGE: &str = "\
@@ -35,6 +39,11 @@ usage: compare                 hold the port against Rust and print what was com
        compare long [--seconds N | --megabytes N]
                                the same with more texts and documents, then random documents for so
                                long or so many bytes (a megabyte is 1,000,000), else 2,000,000
+       compare files PATH..    hold the crate `conl` against the original on files of your own, and
+                               on every file of a folder: status 1 where there is a difference,
+                               else 2 where a file could not be read, or there was none
+       compare listings PROGRAM
+                               run the program `listing`, and hold what it writes against Rust
        compare vectors         print the stored sample of Rust's answers";
 
 fn main() -> ExitCode {
@@ -46,6 +55,10 @@ fn main() -> ExitCode {
             ExitCode::SUCCESS
         }
         [word, rest @ ..] if word == "long" => long(rest).map_or_else(misused, compare),
+        [word, paths @ ..] if word == "files" && !paths.is_empty() => {
+            files::compare(&paths.iter().map(PathBuf::from).collect::<Vec<_>>())
+        }
+        [word, program] if word == "listings" => compare_listings(Path::new(program)),
         _ => misused(),
     }
 }
@@ -94,6 +107,23 @@ fn compare(extent: Extent) -> ExitCode {
         ExitCode::SUCCESS
     } else {
         ExitCode::FAILURE
+    }
+}
+
+fn compare_listings(program: &Path) -> ExitCode {
+    match listings::compare(program) {
+        Ok(tally) => {
+            print!("{tally}");
+            if tally.passed() {
+                ExitCode::SUCCESS
+            } else {
+                ExitCode::FAILURE
+            }
+        }
+        Err(error) => {
+            eprintln!("compare: {} cannot be run: {error}", program.display());
+            ExitCode::from(2)
+        }
     }
 }
 

@@ -8,7 +8,7 @@ use std::iter;
 use std::ops::RangeInclusive;
 
 /// How many sections the port lets be open.
-const SECTIONS: usize = 64;
+pub const SECTIONS: usize = 64;
 
 pub const COMMENT: usize = 2;
 pub const INDENT: usize = 3;

@@ -69,7 +69,7 @@ const MIDDLES: [&str; 8] = [
 ];
 
 /// Documents that turn on one rule each.
-const EXAMPLES: [&[u8]; 23] = [
+pub const EXAMPLES: [&[u8]; 23] = [
     b"",
     b"a\n  = \"x\"\n",
     b"a = \"\"\"\"b",

@@ -32,11 +32,13 @@ pub enum Unescaped {
 }
 
 /// The text of the token in `row`, which is one of `document`'s. A text that is no part of the
-/// document is written at the front of `out`, whose other bytes stay as they are.
+/// document is written at the front of `out`, whose other bytes stay as they are. A token whose parts
+/// are none of the document's, or no UTF-8, is refused by number 13.
 ///
 /// # Panics
 ///
-/// Where `row` is a refusal.
+/// Where `row.number` is no token's, 1 to 10: where it is 0, over 10, or a refusal's. It panics for
+/// no other reason, whatever the document, the row and the buffer.
 pub fn unescape(document: &[u8], row: &Row, out: &mut [u8]) -> Unescaped {
     let row = row.words();
     let mut answer = [0; 5];
