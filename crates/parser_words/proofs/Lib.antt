@@ -1,10 +1,3 @@
 pub mod Tests
 pub mod Sorts
-pub mod ParserRulings
-pub mod ParserSteps
 pub mod Back
-pub mod Agreeing
-pub mod Putting
-pub mod Coming
-pub mod Going
-pub mod Walking

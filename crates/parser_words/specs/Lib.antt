@@ -1,3 +1,2 @@
 pub mod ParserWords
 pub mod Parsing
-pub mod Stepping

@@ -1,0 +1,10 @@
+// One step of a state in words, in place, the tokenizer's or the parser's; and what goes over it: a batch of either for callers in
+// C and Rust, and the parser's next answer for the walks inside the library.
+mod front;
+mod outcome;
+mod rows;
+mod step;
+
+pub use rows::next;
+pub use rows::parse;
+pub use rows::tokenize;
