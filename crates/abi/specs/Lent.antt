@@ -1,4 +1,4 @@
--- What the exported functions take and write, in words of the lent slices.
+-- The port's own: what the exported functions take and write, in words of the lent slices.
 use Prim.Native.Nat.{ℕ}
 use mathlib.Core.List.{List, [], _∷_}
 use mathlib.Core.Bool.{Bool, true, false}

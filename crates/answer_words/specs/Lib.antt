@@ -1,2 +1,3 @@
 pub mod Texts
 pub mod Found
+pub mod Claims

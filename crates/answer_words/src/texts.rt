@@ -1,9 +1,10 @@
 // Unescaping over lent words: the token in a row, the answer in five words.
 use parser_words::token_in;
+use tokenizer::State;
 use tokenizer_words::paste;
 use unescape::Answer;
 ghost use mathlib.Core.Path.{_≡_};
-ghost use Rattle.answer_words.specs.Texts.{answerWords, isToken, textOf};
+ghost use Rattle.answer_words.specs.Texts.{answerWords, isToken, hasAnswer, textOf};
 
 fn answer_words(a: Answer) -> [usize; 5]
     ensures { λ r. ⌜ r ≡ answerWords a ⌝ }
@@ -25,14 +26,24 @@ fn is_token(w: &[usize]) -> bool
     (1 <= w[0]) & (w[0] <= 10)
 }
 
-// Unescapes the token of a row and writes the answer at the front of its words: true; or false, with nothing written, where the
-// row is no token's or there are fewer than five words for the answer.
+// Whether there is an answer: over the limit it is 12, whatever the row; else the row must be a token's.
+fn has_answer(doc: &[u8], row: &[usize]) -> bool
+    ensures { λ r. ⌜ r ≡ hasAnswer (now (doc .entry)) (now (row .entry)) ⌝ }
+{
+    if State::MAX_DOCUMENT < doc.len() {
+        return true;
+    }
+    is_token(row)
+}
+
+// Unescapes the token of a row and writes the answer at the front of its words: true; or false, with nothing written, where
+// there are fewer than five words for the answer, or the row is no token's and the document is within the limit.
 pub fn unescape(doc: &[u8], row: &[usize], out: &mut [u8], answer: &mut [usize]) -> bool
     ensures { λ r. ⌜ r ≡ textOf (now (doc .entry)) (now (row .entry)) (now (out .entry)) (now (answer .entry)) .result ⌝ }
     ensures { λ r. ⌜ now (out .exit) ≡ textOf (now (doc .entry)) (now (row .entry)) (now (out .entry)) (now (answer .entry)) .buffer ⌝ }
     ensures { λ r. ⌜ now (answer .exit) ≡ textOf (now (doc .entry)) (now (row .entry)) (now (out .entry)) (now (answer .entry)) .words ⌝ }
 {
-    if !is_token(row) {
+    if !has_answer(doc, row) {
         return false;
     }
     if answer.len() < 5 {

@@ -1,6 +1,8 @@
--- Document 01, 'Layouts on the test strip': the rows marked P, as one statement, in its order. Texts are in bytes.
+-- Claim about the law: document 01, 'Layouts on the test strip': the rows marked P, as one statement, in its order.
+-- proofs/Computed gathers it from the crates where each row is computed.
 use mathlib.Core.Path.{_≡_}
-use mathlib.Core.List.{[], _∷_}
+use mathlib.Core.List.{[], _∷_, _++_}
+use Rattle.text.specs.Ascii.{ascii}
 use Rattle.text.specs.declared.bytes.Part.{Part}
 use Rattle.tokenizer.specs.Lists.{tokens}
 use Rattle.tokenizer.specs.declared.token.Token.the-variants as token
@@ -20,7 +22,7 @@ pub record Rows : Type 0 where
   pub no-tokens : tokens [] ≡ []
   pub no-answers : parse [] ≡ []
   -- the listing's document, `a` LF `  = "x"` LF
-  pub listing-answers : parse (97 ∷ 10 ∷ 32 ∷ 32 ∷ 61 ∷ 32 ∷ 34 ∷ 120 ∷ 34 ∷ 10 ∷ [])
+  pub listing-answers : parse (ascii "a\n  = \"x\"\n")
       ≡ answer.Token (token.MapKey 1 (part 0 1))
       ∷ answer.Token (token.Newline 1)
       ∷ answer.Token (token.Indent 2)
@@ -30,35 +32,34 @@ pub record Rows : Type 0 where
       ∷ answer.Token (token.Outdent 3)
       ∷ []
   -- and the listing itself, a line of it on each line here
-  pub listing-bytes : listingOf (97 ∷ 10 ∷ 32 ∷ 32 ∷ 61 ∷ 32 ∷ 34 ∷ 120 ∷ 34 ∷ 10 ∷ [])
-      ≡ 108 ∷ 105 ∷ 110 ∷ 101 ∷ 32 ∷ 107 ∷ 105 ∷ 110 ∷ 100 ∷ 32 ∷ 115 ∷ 116 ∷ 97 ∷ 114 ∷ 116 ∷ 32 ∷ 101 ∷ 110 ∷ 100 ∷ 10
-      ∷ 49 ∷ 32 ∷ 54 ∷ 32 ∷ 48 ∷ 32 ∷ 49 ∷ 10
-      ∷ 49 ∷ 32 ∷ 49 ∷ 32 ∷ 48 ∷ 32 ∷ 48 ∷ 10
-      ∷ 50 ∷ 32 ∷ 51 ∷ 32 ∷ 48 ∷ 32 ∷ 48 ∷ 10
-      ∷ 50 ∷ 32 ∷ 53 ∷ 32 ∷ 48 ∷ 32 ∷ 48 ∷ 10
-      ∷ 50 ∷ 32 ∷ 55 ∷ 32 ∷ 54 ∷ 32 ∷ 57 ∷ 10
-      ∷ 50 ∷ 32 ∷ 49 ∷ 32 ∷ 48 ∷ 32 ∷ 48 ∷ 10
-      ∷ 51 ∷ 32 ∷ 52 ∷ 32 ∷ 48 ∷ 32 ∷ 48 ∷ 10
-      ∷ []
+  pub listing-bytes : listingOf (ascii "a\n  = \"x\"\n")
+      ≡ ascii "line kind start end\n"
+      ++ ascii "1 6 0 1\n"
+      ++ ascii "1 1 0 0\n"
+      ++ ascii "2 3 0 0\n"
+      ++ ascii "2 5 0 0\n"
+      ++ ascii "2 7 6 9\n"
+      ++ ascii "2 1 0 0\n"
+      ++ ascii "3 4 0 0\n"
   -- `a = """"b`: key 0–1, refusal 2, key 4–9
-  pub four-quotes : tokens (97 ∷ 32 ∷ 61 ∷ 32 ∷ 34 ∷ 34 ∷ 34 ∷ 34 ∷ 98 ∷ [])
+  pub four-quotes : tokens (ascii "a = \"\"\"\"b")
       ≡ came.Token (token.MapKey 1 (part 0 1)) ∷ came.Refused 2 1 ∷ came.Token (token.MapKey 1 (part 4 9)) ∷ []
   -- `a = """` LF `;x`: key, empty hint at 7, Newline, empty key at 8, Comment 9–10; parser: 4, line 1
-  pub hint-tokens : tokens (97 ∷ 32 ∷ 61 ∷ 32 ∷ 34 ∷ 34 ∷ 34 ∷ 10 ∷ 59 ∷ 120 ∷ [])
+  pub hint-tokens : tokens (ascii "a = \"\"\"\n;x")
       ≡ came.Token (token.MapKey 1 (part 0 1))
       ∷ came.Token (token.MultilineHint 1 (part 7 7))
       ∷ came.Token (token.Newline 1)
       ∷ came.Token (token.MapKey 2 (part 8 8))
       ∷ came.Token (token.Comment 2 (part 9 10))
       ∷ []
-  pub hint-answers : parse (97 ∷ 32 ∷ 61 ∷ 32 ∷ 34 ∷ 34 ∷ 34 ∷ 10 ∷ 59 ∷ 120 ∷ [])
+  pub hint-answers : parse (ascii "a = \"\"\"\n;x")
       ≡ answer.Token (token.MapKey 1 (part 0 1)) ∷ answer.Token (token.MultilineHint 1 (part 7 7)) ∷ answer.Token (token.Newline 1) ∷ answer.Refused 4 1 ∷ []
   -- one space then `a`: Indent, key, Outdent; parser: 7, line 1
-  pub space-tokens : tokens (32 ∷ 97 ∷ [])
+  pub space-tokens : tokens (ascii " a")
       ≡ came.Token (token.Indent 1) ∷ came.Token (token.MapKey 1 (part 1 2)) ∷ came.Token (token.Outdent 1) ∷ []
-  pub space-answers : parse (32 ∷ 97 ∷ []) ≡ answer.Refused 7 1 ∷ []
+  pub space-answers : parse (ascii " a") ≡ answer.Refused 7 1 ∷ []
   -- `k` LF ` a = """` LF `  x`: the Outdent is on line 4
-  pub outdent-on-line-four : tokens (107 ∷ 10 ∷ 32 ∷ 97 ∷ 32 ∷ 61 ∷ 32 ∷ 34 ∷ 34 ∷ 34 ∷ 10 ∷ 32 ∷ 32 ∷ 120 ∷ [])
+  pub outdent-on-line-four : tokens (ascii "k\n a = \"\"\"\n  x")
       ≡ came.Token (token.MapKey 1 (part 0 1))
       ∷ came.Token (token.Newline 1)
       ∷ came.Token (token.Indent 2)
@@ -69,12 +70,12 @@ pub record Rows : Type 0 where
       ∷ came.Token (token.Outdent 4)
       ∷ []
   -- `"\{0010FFFF}"` gives a scalar; `"\{00110000}"` and `"\{000000041}"` give 8
-  pub last-scalar : entryMeaning (34 ∷ 92 ∷ 123 ∷ 48 ∷ 48 ∷ 49 ∷ 48 ∷ 70 ∷ 70 ∷ 70 ∷ 70 ∷ 125 ∷ 34 ∷ []) ≡ bytes (0xF4 ∷ 0x8F ∷ 0xBF ∷ 0xBF ∷ [])
-  pub past-last : entryMeaning (34 ∷ 92 ∷ 123 ∷ 48 ∷ 48 ∷ 49 ∷ 49 ∷ 48 ∷ 48 ∷ 48 ∷ 48 ∷ 125 ∷ 34 ∷ []) ≡ code 1 12
-  pub nine-digits : entryMeaning (34 ∷ 92 ∷ 123 ∷ 48 ∷ 48 ∷ 48 ∷ 48 ∷ 48 ∷ 48 ∷ 48 ∷ 52 ∷ 49 ∷ 125 ∷ 34 ∷ []) ≡ code 1 13
+  pub last-scalar : entryMeaning (ascii "\"\\{0010FFFF}\"") ≡ bytes (0xF4 ∷ 0x8F ∷ 0xBF ∷ 0xBF ∷ [])
+  pub past-last : entryMeaning (ascii "\"\\{00110000}\"") ≡ code 1 12
+  pub nine-digits : entryMeaning (ascii "\"\\{000000041}\"") ≡ code 1 13
   -- `"` gives 11; `"a"b` 10
-  pub unclosed : entryMeaning (34 ∷ []) ≡ refused 11
-  pub extra : entryMeaning (34 ∷ 97 ∷ 34 ∷ 98 ∷ []) ≡ refused 10
+  pub unclosed : entryMeaning (ascii "\"") ≡ refused 11
+  pub extra : entryMeaning (ascii "\"a\"b") ≡ refused 10
   -- indentation of two spaces, `x` CR LF `   y` LF ` ` LF `  z`: `x` LF ` y` LF LF `z`
-  pub four-lines : blockMeaning (32 ∷ 32 ∷ []) (120 ∷ 13 ∷ 10 ∷ 32 ∷ 32 ∷ 32 ∷ 121 ∷ 10 ∷ 32 ∷ 10 ∷ 32 ∷ 32 ∷ 122 ∷ [])
-      ≡ bytes (120 ∷ 10 ∷ 32 ∷ 121 ∷ 10 ∷ 10 ∷ 122 ∷ [])
+  pub four-lines : blockMeaning (ascii "  ") (ascii "x\r\n   y\n \n  z")
+      ≡ bytes (ascii "x\n y\n\nz")

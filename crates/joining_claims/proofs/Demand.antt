@@ -70,19 +70,19 @@ line-raised l n (key m p) = refl
 
 -- The end of P, as its own list has it
 
-append-nil : (l : List Answer) → l ++ [] ≡ l
+pub append-nil : (l : List Answer) → l ++ [] ≡ l
 append-nil [] = refl
 append-nil (a ∷ l) = ap (λ (m : List Answer). a ∷ m) (append-nil l)
 
 -- a hint is refused there, and nothing else is
-end-refused : (a : Awaited) (s : Sort) → refusedIn (feed (atTop a s) came.End .says) ≡ hinted a
+pub end-refused : (a : Awaited) (s : Sort) → refusedIn (feed (atTop a s) came.End .says) ≡ hinted a
 unfolding feed rulingOf onEnd refusedIn
 end-refused awaited.Nothing s = refl
 end-refused (awaited.Value m) s = refl
 end-refused (awaited.Multiline m) s = refl
 
 -- the sections stay
-end-runs : (a : Awaited) (s : Sort) → hinted a ≡ false → Runs (s ∷ []) (feed (atTop a s) came.End .says) (s ∷ [])
+pub end-runs : (a : Awaited) (s : Sort) → hinted a ≡ false → Runs (s ∷ []) (feed (atTop a s) came.End .says) (s ∷ [])
 unfolding feed rulingOf onEnd topEntries
 end-runs awaited.Nothing s e = done
 end-runs (awaited.Value m) s e = more {sorts = s ∷ []} {c = Keep} (passes (λ i o l. refl)) (omega arith) done

@@ -16,3 +16,4 @@ pub mod Ruled
 pub mod Behind
 pub mod AtTop
 pub mod Demand
+pub mod OneSort

@@ -1,7 +1,7 @@
 -- The sort of the top level: what the parser keeps for it at the bottom of its sections is the sort of the first top-level entry
 -- among its answers.
 use Prim.Native.Nat.{ℕ, zero, suc, _+_, _<_}
-use mathlib.Core.Path.{_≡_, refl, sym, ap, _∙_}
+use mathlib.Core.Path.{_≡_, refl, sym, ap, subst, _∙_}
 use mathlib.Core.List.{List, [], _∷_, _++_}
 use mathlib.Core.Bool.{Bool, true, false, cond}
 use native.Mathlib.Nat.{add-zero}
@@ -32,6 +32,7 @@ use Rattle.parser_rules.specs.declared.ruling.Sort.the-variants.{Unset, Map, Li
 use Rattle.parser_rules.specs.declared.ruling.Innermost.the-variants.{Of}
 use Rattle.parser_rules.specs.declared.ruling.Change.{Change}
 use Rattle.parser_rules.specs.declared.ruling.Change.the-variants.{Keep, Fix, Open, Close}
+use Rattle.joining_claims.specs.TopSort.{OfSort}
 
 -- an answer that is no entry and neither opens nor closes a section; one that is a key or an item
 abbrev pub Plain : Answer → Type 0
@@ -96,6 +97,7 @@ record Left (sorts : List Sort) (i o : ℕ) (s : Sort) (a : Answer) (l : List An
   sort : Sort
   top : Top sorts ins outs sort
   rest : chosen s (sortOf (topEntries i o (a ∷ l))) ≡ chosen sort (sortOf (topEntries ins outs l))
+  each : (z : Sort) → z ≡ chosen sort (sortOf (topEntries ins outs l)) → OfSort z (topEntries ins outs l) → OfSort z (topEntries i o (a ∷ l))
 
 after-close : (inner : List Sort) (s : Sort) (i o m : ℕ) (l : List Answer) → i ≡ o + length inner → 0 < length (sortsAfter Close (inner ++ s ∷ []))
     → Left (sortsAfter Close (inner ++ s ∷ [])) i o s (answer.Token (Outdent m)) l
@@ -107,6 +109,7 @@ after-close (x ∷ inner) s i o m l e h = record {
   sort = s;
   top = record { inner = inner; split = refl; count = omega arith };
   rest = refl;
+  each = λ z q h. h;
 }
 
 after-fix : (inner : List Sort) (s j : Sort) (t : Token) (i o : ℕ) (l : List Answer) → Entry t → (entrySort t ≡ Unset → ⊥) → innermost (inner ++ s ∷ []) ≡ Of j
@@ -121,6 +124,7 @@ after-fix [] s j t i o l f n q e c =
       rest =
           rw (f i o l, eq-eqb i o (omega arith))
           (chosen-fixed s (entrySort t) n (rw same e) ∙ sym (chosen-stays (entrySort t) (sortOf (topEntries i o l)) n));
+      each = λ z q h. rw (f i o l, eq-eqb i o (omega arith)) (sym (q ∙ chosen-stays (entrySort t) (sortOf (topEntries i o l)) n), h);
     }
 after-fix (x ∷ inner) s j t i o l f n q e c = record {
   ins = i;
@@ -128,18 +132,27 @@ after-fix (x ∷ inner) s j t i o l f n q e c = record {
   sort = s;
   top = record { inner = entrySort t ∷ inner; split = refl; count = c };
   rest = rw (f i o l, ne-eqb i o (λ z. omega arith));
+  each = λ z q h. rw (f i o l, ne-eqb i o (λ z. omega arith)) h;
 }
 
 turn-top : {sorts : List Sort} {i o : ℕ} {s : Sort} {a : Answer} {c : Change} → Turn sorts a c → Top sorts i o s → 0 < length (sortsAfter c sorts)
     → (l : List Answer) → Left (sortsAfter c sorts) i o s a l
 unfolding topEntries
-turn-top {i = i} {o = o} {s = s} (passes f) t h l = record { ins = i; outs = o; sort = s; top = t; rest = rw (f i o l) }
+turn-top {i = i} {o = o} {s = s} (passes f) t h l = record {
+  ins = i;
+  outs = o;
+  sort = s;
+  top = t;
+  rest = rw (f i o l);
+  each = λ z q e. rw (f i o l) e;
+}
 turn-top {i = i} {o = o} {s = s} opens t h l = record {
   ins = suc i;
   outs = o;
   sort = s;
   top = record { inner = Unset ∷ t .inner; split = ap (λ (x : List Sort). Unset ∷ x) (t .split); count = omega (arith, t .count) };
   rest = refl;
+  each = λ z q e. e;
 }
 turn-top {i = i} {o = o} {s = s} (closes {m = m}) t h l = rw (t .split) (after-close (t .inner) s i o m l (t .count) (rw (t .split) at h))
 turn-top {i = i} {o = o} {s = s} (fixes {j = j} t f n q e) x h l =
@@ -151,6 +164,19 @@ runs-top : {sorts after : List Sort} {l : List Answer} → Runs sorts l after �
 unfolding topEntries
 runs-top done i o s t = (i, o, rw (chosen-none s) t)
 runs-top (more {l = l} u h r) i o s t = let f = turn-top u t h l in rw (f .rest) (runs-top r (f .ins) (f .outs) (f .sort) (f .top))
+
+-- and all entries on the way are of the sort that is chosen
+runs-sorts : {sorts after : List Sort} {l : List Answer} → Runs sorts l after → (i o : ℕ) (s : Sort) → Top sorts i o s
+    → OfSort (chosen s (sortOf (topEntries i o l))) (topEntries i o l)
+unfolding topEntries
+runs-sorts done i o s t = tt
+runs-sorts (more {l = l} u h r) i o s t =
+    let f = turn-top u t h l in
+    let on = runs-sorts r (f .ins) (f .outs) (f .sort) (f .top) in
+    f .each _ (f .rest) (subst (λ z. OfSort z (topEntries (f .ins) (f .outs) l)) (sym (f .rest)) on)
+
+pub top-sorts : {l : List Answer} {after : List Sort} → Runs (Unset ∷ []) l after → OfSort (topSort l) (topEntries 0 0 l)
+top-sorts r = runs-sorts r 0 0 Unset (record { inner = []; split = refl; count = omega arith })
 
 -- from the top level on, the one section that is left at the end has the sort of the first top-level entry
 pub top-sort : {l : List Answer} {s : Sort} → Runs (Unset ∷ []) l (s ∷ []) → s ≡ topSort l

@@ -1,11 +1,12 @@
--- Document 01, 'Unescaping': a token of P then S unescapes alike if, with equal buffers, unescaping it there and, unraised, in P
--- or S alone gives the same bytes (both times as a part or both times written) or the same number (line and shown part raised
--- for S's tokens only), and leaves equal buffers.
+-- Law: document 01, 'Unescaping': a token of P then S unescapes alike if, with equal buffers, unescaping it there and,
+-- unraised, in P or S alone gives the same bytes (both times as a part or both times written) or the same number (line
+-- and shown part raised for S's tokens only), and leaves equal buffers.
 use Prim.Native.Nat.{ℕ, _+_}
 use mathlib.Core.Path.{_≡_}
 use mathlib.Core.List.{List}
 use mathlib.Core.Bool.{cond}
 use lib.Dec.{eqb}
+use Rattle.text.specs.Numbers.{invalidEscape}
 use Rattle.text.specs.declared.bytes.Part.{Part}
 use Rattle.tokenizer.specs.Step.{bytesOf}
 use Rattle.tokenizer.specs.declared.token.Token.{Token}
@@ -16,7 +17,7 @@ use Rattle.joining_claims.specs.Raising.{raisePart}
 
 -- the part that a refusal shows: only 8 has one
 abbrev pub raiseShown : ℕ → ℕ → Part → Part
-raiseShown n r q = cond (eqb r 8) (raisePart n q) q
+raiseShown n r q = cond (eqb r invalidEscape) (raisePart n q) q
 
 -- an answer about the document d and one about e, whose lines and places are l and n lower
 unfoldable pub Same : ℕ → ℕ → List ℕ → Answer → List ℕ → Answer → Type 0

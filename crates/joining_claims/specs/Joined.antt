@@ -1,10 +1,12 @@
--- Demand 3, one statement over whole lists: what stands above a top-level line cannot change what is read from it on, save lines
--- and places.
+-- Claim about the law: demand 3, one statement over whole lists. What stands above a top-level line cannot change what
+-- is read from it on, save lines and places. proofs/Demand proves it; proofs/Counterexamples shows that each condition
+-- is needed.
 use Prim.Native.Nat.{ℕ, _+_, _≤_}
 use mathlib.Core.Path.{_≡_}
 use mathlib.Core.List.{List, [], _∷_, _++_, map}
 use mathlib.Core.Bool.{Bool, true, false, cond}
 use lib.ListN.{length}
+use Rattle.text.specs.Numbers.{maxDocument, unexpectedKey, unexpectedItem}
 use Rattle.tokenizer.specs.Token.{lineOf}
 use Rattle.tokenizer_scans.specs.Scans.{breaks}
 use Rattle.tokenizer.specs.Lists.{tokens}
@@ -36,8 +38,8 @@ EachToken F (came.Refused r m ∷ as₁) = EachToken F as₁
 
 -- the number that refuses a key among items, 5, or an item among keys, 6
 abbrev pub numberOf : Sort → ℕ
-numberOf Map = 5
-numberOf Listed = 6
+numberOf Map = unexpectedKey
+numberOf Listed = unexpectedItem
 numberOf Unset = 0
 
 -- what the parser says of S behind P, whose list is above and whose first token is the key or item t: nothing where P is refused;
@@ -64,4 +66,4 @@ pub record Joined (p s : List ℕ) : Type 0 where
 -- for every P that is empty or ends in CR or LF, and every S that is empty or whose first byte is no space, tab, CR, LF or `;`,
 -- together within the size limit
 abbrev pub Demand3 : Type 0
-Demand3 = (p s : List ℕ) → Closed p → topLevel s ≡ true → length (p ++ s) ≤ 16777216 → Joined p s
+Demand3 = (p s : List ℕ) → Closed p → topLevel s ≡ true → length (p ++ s) ≤ maxDocument → Joined p s

@@ -3,3 +3,4 @@ pub mod Tokens
 pub mod Alike
 pub mod Joined
 pub mod Never13
+pub mod TopSort

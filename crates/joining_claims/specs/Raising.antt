@@ -1,5 +1,5 @@
--- Document 01, 'Parser': raising adds P's number of line breaks to every line, and P's length to every start and end of a text,
--- empty ones too, or of an indentation; kinds that carry no text keep their zeros.
+-- Law: document 01, 'Parser': raising adds P's number of line breaks to every line, and P's length to every start and
+-- end of a text, empty ones too, or of an indentation; kinds that carry no text keep their zeros.
 use Prim.Native.Nat.{ℕ, _+_}
 use mathlib.Core.List.{List, map}
 use Rattle.text.specs.declared.bytes.Part.{Part}

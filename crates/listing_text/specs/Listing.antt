@@ -1,28 +1,33 @@
--- Document 01, 'Look-up and listing': a header of names, then a row for each answer of the parser.
+-- Law: document 01, 'Look-up and listing': a header of names, then a row for each answer of the parser.
 use Prim.Native.Nat.{ℕ}
+use Prim.Native.Char.{code as byte}
 use mathlib.Core.List.{List, [], _∷_, _++_}
 use mathlib.Core.Bool.{Bool, true, false, cond}
 use lib.Dec.{ltb}
 use lib.ListN.{length}
+use Rattle.text.specs.Ascii.{ascii}
+use Rattle.text.specs.Numbers.{tooLong}
 use Rattle.tokenizer.specs.Token.{Values, tokenValues}
 use Rattle.parser.specs.Lists.{parse}
 use Rattle.parser_rules.specs.declared.ruling.Answer.{Answer}
 use Rattle.parser_rules.specs.declared.ruling.Answer.the-variants.{End, Token, Refused}
 use Rattle.listing_text.specs.Text.{decimal}
 
--- `line kind start end`, LF
+-- the longest document that is listed, in bytes
+abbrev pub maxListed : ℕ
+maxListed = 65_536
+
 abbrev pub header : List ℕ
-header =
-    108 ∷ 105 ∷ 110 ∷ 101 ∷ 32 ∷ 107 ∷ 105 ∷ 110 ∷ 100 ∷ 32 ∷ 115 ∷ 116 ∷ 97 ∷ 114 ∷ 116 ∷ 32 ∷ 101 ∷ 110 ∷ 100 ∷ 10 ∷ []
+header = ascii "line kind start end\n"
 
 -- a refusal's kind is R and its number
 unfoldable pub kindText : Bool → ℕ → List ℕ
-kindText true n = 82 ∷ decimal n
+kindText true n = byte "R" ∷ decimal n
 kindText false n = decimal n
 
 -- line, kind, start and end, with spaces between and LF behind
 unfoldable pub rowText : ℕ → List ℕ → ℕ → ℕ → List ℕ
-rowText l k a e = decimal l ++ (32 ∷ []) ++ k ++ (32 ∷ []) ++ decimal a ++ (32 ∷ []) ++ decimal e ++ (10 ∷ [])
+rowText l k a e = decimal l ++ ascii " " ++ k ++ ascii " " ++ decimal a ++ ascii " " ++ decimal e ++ ascii "\n"
 
 abbrev pub tokenText : Values → List ℕ
 tokenText v = rowText (v .line) (kindText false (v .number)) (v .start) (v .end)
@@ -36,6 +41,6 @@ unfoldable pub rowsText : List Answer → List ℕ
 rowsText [] = []
 rowsText (a ∷ l) = answerText a ++ rowsText l
 
--- the listing of a document of up to 65,536 bytes; of a longer one it is the header and the row of refusal 12
+-- the listing of a document; of one that is too long it is the header and the row of refusal 12
 unfoldable pub listingOf : List ℕ → List ℕ
-listingOf d = header ++ cond (ltb 65536 (length d)) (answerText (Refused 12 0)) (rowsText (parse d))
+listingOf d = header ++ cond (ltb maxListed (length d)) (answerText (Refused tooLong 0)) (rowsText (parse d))

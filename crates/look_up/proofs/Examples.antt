@@ -2,6 +2,7 @@
 use Prim.Native.Nat.{ℕ}
 use mathlib.Core.Path.{_≡_, refl}
 use mathlib.Core.List.{List, [], _∷_}
+use Rattle.text.specs.Ascii.{ascii}
 use Rattle.tokenizer.proofs.Examples.{part}
 use Rattle.parser.specs.Lists.{topEntries}
 use Rattle.parser.proofs.Examples.{rules as parserRules}
@@ -15,30 +16,30 @@ unfolding parserRules topEntries keysOf refusalIn extent entriesOf isSame firstO
 rules d w = lookUp d w
 
 -- an empty document has no `a`
-pub empty : lookUp [] (97 ∷ []) ≡ Nothing
+pub empty : lookUp [] (ascii "a") ≡ Nothing
 unfolding rules
 empty = refl
 
 -- `a=1` LF ` b`: `a` is there, and its entry is refused, 7 on line 2
-pub refused-entry : lookUp (97 ∷ 61 ∷ 49 ∷ 10 ∷ 32 ∷ 98 ∷ []) (97 ∷ []) ≡ Refused 7 2
+pub refused-entry : lookUp (ascii "a=1\n b") (ascii "a") ≡ Refused 7 2
 unfolding rules
 refused-entry = refl
 
 -- `a=1` LF `b` LF `=`
 abbrev keysThenItem : List ℕ
-keysThenItem = 97 ∷ 61 ∷ 49 ∷ 10 ∷ 98 ∷ 10 ∷ 61 ∷ []
+keysThenItem = ascii "a=1\nb\n="
 
 -- the entry of `a` ends before the refusal, at `b`
-pub before-refusal : lookUp keysThenItem (97 ∷ []) ≡ At 1 (part 0 4)
+pub before-refusal : lookUp keysThenItem (ascii "a") ≡ At 1 (part 0 4)
 unfolding rules
 before-refusal = refl
 
 -- that of `b` meets it, 6 on line 3
-pub meets-refusal : lookUp keysThenItem (98 ∷ []) ≡ Refused 6 3
+pub meets-refusal : lookUp keysThenItem (ascii "b") ≡ Refused 6 3
 unfolding rules
 meets-refusal = refl
 
 -- `a` LF ` b = 1` LF: `b` is below the top level
-pub nested : lookUp (97 ∷ 10 ∷ 32 ∷ 98 ∷ 32 ∷ 61 ∷ 32 ∷ 49 ∷ 10 ∷ []) (98 ∷ []) ≡ Nothing
+pub nested : lookUp (ascii "a\n b = 1\n") (ascii "b") ≡ Nothing
 unfolding rules
 nested = refl

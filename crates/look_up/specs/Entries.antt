@@ -1,5 +1,5 @@
--- Document 01, 'Look-up and listing': the top-level keys of a document with the extents of their entries, over the parser's list.
--- The look-up is the first of them whose bytes are those that are wanted.
+-- Law: document 01, 'Look-up and listing': the top-level keys of a document with the extents of their entries, over the
+-- parser's list. The look-up is the first of them whose bytes are those that are wanted.
 use Prim.Native.Nat.{ℕ}
 use mathlib.Core.List.{List, [], _∷_}
 use mathlib.Core.Bool.{Bool, true, false, cond, _&&_}

@@ -1,4 +1,5 @@
--- The look-up as one pass over the parser's answers: what one answer does to a search.
+-- Intermediate: the look-up as one pass over the parser's answers, what one answer does to a search. proofs/Searched
+-- and proofs/Searching show that the pass comes to the law's look-up.
 use Prim.Native.Nat.{ℕ, _+_, _<_, _^_}
 use mathlib.Core.List.{List}
 use mathlib.Core.Bool.{cond}

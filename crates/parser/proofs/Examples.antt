@@ -2,6 +2,7 @@
 use Prim.Native.Nat.{ℕ}
 use mathlib.Core.Path.{_≡_, refl}
 use mathlib.Core.List.{List, [], _∷_}
+use Rattle.text.specs.Ascii.{ascii}
 use Rattle.tokenizer.specs.declared.token.Token.the-variants as token
 use Rattle.tokenizer.proofs.Examples.{part}
 use Rattle.tokenizer.proofs.Examples.{rules as tokenRules}
@@ -21,18 +22,18 @@ unfolding rules
 empty = refl
 
 -- `a = """` LF `;x`: key, hint, Newline, refusal 4 on line 1
-pub hint-then-comment : parse (97 ∷ 32 ∷ 61 ∷ 32 ∷ 34 ∷ 34 ∷ 34 ∷ 10 ∷ 59 ∷ 120 ∷ [])
+pub hint-then-comment : parse (ascii "a = \"\"\"\n;x")
     ≡ Token (token.MapKey 1 (part 0 1)) ∷ Token (token.MultilineHint 1 (part 7 7)) ∷ Token (token.Newline 1) ∷ Refused 4 1 ∷ []
 unfolding rules
 hint-then-comment = refl
 
 -- one space then `a`: refusal 7 on line 1
-pub space-a : parse (32 ∷ 97 ∷ []) ≡ Refused 7 1 ∷ []
+pub space-a : parse (ascii " a") ≡ Refused 7 1 ∷ []
 unfolding rules
 space-a = refl
 
 -- `a` LF `  = "x"` LF
-pub listing : parse (97 ∷ 10 ∷ 32 ∷ 32 ∷ 61 ∷ 32 ∷ 34 ∷ 120 ∷ 34 ∷ 10 ∷ [])
+pub listing : parse (ascii "a\n  = \"x\"\n")
     ≡ Token (token.MapKey 1 (part 0 1))
     ∷ Token (token.Newline 1)
     ∷ Token (token.Indent 2)

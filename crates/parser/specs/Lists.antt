@@ -1,11 +1,13 @@
--- Document 01, 'Parser': the parser's list for a document holds every answer of its step before the first End; over the size
--- limit it is the one refusal 12. Beside it, the same as a function over the tokenizer's list.
+-- Law: document 01, 'Parser': the parser's list for a document holds every answer of its step before the first End;
+-- over the size limit it is the one refusal 12. Beside it, the same as a function over the tokenizer's list, which is
+-- intermediate: parser_claims, proofs/Claimed, shows that it is this list.
 use Prim.Native.Nat.{ℕ, zero, suc, _*_, _≤_, _<_}
 use mathlib.Core.Path.{_≡_}
 use mathlib.Core.List.{List, [], _∷_, _++_}
 use mathlib.Core.Bool.{Bool, true, false, cond}
 use lib.Dec.{eqb, ltb}
 use lib.ListN.{length}
+use Rattle.text.specs.Numbers.{maxDocument, tooLong, unfitState}
 use Rattle.tokenizer.specs.Lists.{tokens}
 use Rattle.tokenizer.specs.declared.token.Token.{Token}
 use Rattle.tokenizer.specs.declared.token.Token.the-variants as token
@@ -43,10 +45,11 @@ pub data Parses (d : List ℕ) : State → List Answer → State → Type 0 wher
 
 -- the parser's list for a document
 pub data ParseList (d : List ℕ) : List Answer → Type 0 where
-  over : 16777216 < length d → ParseList d (answer.Refused 12 0 ∷ [])
-  read : {l : List Answer} {u : State} → length d ≤ 16777216 → Parses d fresh l u → ParseList d l
+  over : maxDocument < length d → ParseList d (answer.Refused tooLong 0 ∷ [])
+  read : {l : List Answer} {u : State} → length d ≤ maxDocument → Parses d fresh l u → ParseList d l
 
--- The parser over the tokenizer's list: what is awaited, and the sorts of the open sections, the innermost first.
+-- Intermediate, the parser over the tokenizer's list: what is awaited, and the sorts of the open sections, the innermost
+-- first.
 pub record Stand : Type 0 where
   pub awaited : Awaited
   pub sorts : List Sort
@@ -70,7 +73,7 @@ pub record Fed : Type 0 where
   pub goesOn : Bool
 
 abbrev pub unfitFed : Stand → Fed
-unfitFed s = record { says = answer.Refused 15 0 ∷ []; next = s; goesOn = false }
+unfitFed s = record { says = answer.Refused unfitState 0 ∷ []; next = s; goesOn = false }
 
 abbrev pub standAfter : Stand → Verdict → Stand
 standAfter s v = record { awaited = v .awaited; sorts = sortsAfter (v .change) (s .sorts) }
@@ -109,9 +112,9 @@ parsed s (c ∷ l) = let r = parsed (feed s c .next) l in feed s c .says ++ cond
 abbrev pub freshStand : Stand
 freshStand = record { awaited = awaited.Nothing; sorts = Unset ∷ [] }
 
--- The list of a document. The parser's claims show that it is the one list that is parsed.
+-- The list of a document.
 unfoldable pub parse : List ℕ → List Answer
-parse d = let r = parsed freshStand (tokens d) in cond (ltb 16777216 (length d)) (answer.Refused 12 0 ∷ []) r
+parse d = let r = parsed freshStand (tokens d) in cond (ltb maxDocument (length d)) (answer.Refused tooLong 0 ∷ []) r
 
 -- A document is refused where its parser's list has a refusal, else accepted.
 unfoldable pub refusedIn : List Answer → Bool
@@ -119,6 +122,9 @@ refusedIn [] = false
 refusedIn (answer.End ∷ l) = refusedIn l
 refusedIn (answer.Token t ∷ l) = refusedIn l
 refusedIn (answer.Refused n m ∷ l) = true
+
+abbrev pub Accepted : List ℕ → Type 0
+Accepted d = refusedIn (parse d) ≡ false
 
 -- A top-level entry is a key or item with as many Outdents as Indents before it in the list; i and o count them.
 unfoldable pub topEntries : ℕ → ℕ → List Answer → List Token

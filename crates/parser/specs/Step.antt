@@ -1,9 +1,10 @@
--- Document 01, 'Parser': the state, and the step over it. 12, then 15, then End once refused, then the rules.
+-- Law: document 01, 'Parser': the state, and the step over it. 12, then 15, then End once refused, then the rules.
 use Prim.Native.Nat.{ℕ, zero, suc, _+_, _-_, _≤_, _<_}
 use mathlib.Core.List.{List}
 use mathlib.Core.Bool.{Bool, true, false, cond}
 use lib.Dec.{leb, ltb}
 use lib.ListN.{length, getD, set, replicate}
+use Rattle.text.specs.Numbers.{maxDocument, maxOpen, tooLong, unfitState}
 use Rattle.tokenizer.specs.Step.{fit}
 use Rattle.tokenizer.specs.Step.{stepOf as tokenStep}
 use Rattle.tokenizer.specs.Step.{fresh as freshTokenizer}
@@ -28,6 +29,10 @@ use Rattle.parser.specs.declared.state.Section.{Section}
 use Rattle.parser.specs.declared.state.State.{State}
 use Rattle.parser.specs.declared.state.Step.{Step}
 
+-- the most sections that the record has: the top level, and those above it that may be open
+abbrev pub maxSections : ℕ
+maxSections = 1 + maxOpen
+
 -- a section of no sort yet
 abbrev pub noSort : Section
 noSort = record { sort = Unset }
@@ -35,11 +40,11 @@ noSort = record { sort = Unset }
 -- the innermost of the first count sections; an empty record has none, nor has one that counts over 65
 unfoldable pub innermostOf : List Section → ℕ → Innermost
 innermostOf l zero = Missing
-innermostOf l (suc n) = cond (ltb n 65) (Of (getD l n noSort .sort)) Missing
+innermostOf l (suc n) = cond (ltb n maxSections) (Of (getD l n noSort .sort)) Missing
 
 -- no room for one more
 abbrev pub fullOf : ℕ → Bool
-fullOf n = leb 65 n
+fullOf n = leb maxSections n
 
 unfoldable pub sectionsAfter : Change → List Section → ℕ → List Section
 sectionsAfter Keep l n = l
@@ -56,8 +61,8 @@ countAfter Close n = n - 1
 -- the record has what a change needs: a section to fix or to close, room for one to open
 abbrev pub ChangeFits : Change → ℕ → Type 0
 ChangeFits Keep n = Unit {0}
-ChangeFits (Fix s) n = (0 < n) × (n ≤ 65)
-ChangeFits Open n = n < 65
+ChangeFits (Fix s) n = (0 < n) × (n ≤ maxSections)
+ChangeFits Open n = n < maxSections
 ChangeFits Close n = 0 < n
 
 -- the state after a verdict, t being the tokenizer's
@@ -78,7 +83,7 @@ refusal n s = record { answer = answer.Refused n 0; state = s }
 abbrev pub onRuling : Ruling → State → Tokenizer → Step
 onRuling (Says v) s t = record { answer = v .answer; state = afterVerdict s t v }
 onRuling End s t = record { answer = answer.End; state = s }
-onRuling Unfit s t = refusal 15 s
+onRuling Unfit s t = refusal unfitState s
 
 -- what is made of what came, t being the tokenizer's state after it
 unfoldable pub stepWith : State → Came → Tokenizer → Step
@@ -96,9 +101,9 @@ stepKept d s k = stepWith s (cameOf d (s .tokenizer) k .answer) (cameOf d (s .to
 -- the step
 unfoldable pub stepOf : List ℕ → State → Step
 stepOf d s =
-    cond (ltb 16777216 (length d)) (refusal 12 s)
+    cond (ltb maxDocument (length d)) (refusal tooLong s)
     (cond (fit (length d) (s .tokenizer)) (cond (s .refused) (record { answer = answer.End; state = s }) (stepKept d s (s .kept)))
-    (refusal 15 s))
+    (refusal unfitState s))
 
 -- the fresh state: the top level is a section of no sort yet
 unfoldable pub fresh : State
@@ -107,6 +112,6 @@ fresh = record {
   kept = kept.Nothing;
   awaited = awaited.Nothing;
   refused = false;
-  sections = replicate 65 noSort;
+  sections = replicate maxSections noSort;
   count = 1;
 }

@@ -13,6 +13,7 @@ ghost use Prim.Native.Nat.{_-_, _≤_, _<_};
 ghost use lib.ListN.{set};
 ghost use Rattle.parser_rules.specs.Ruling.{valuesOf};
 ghost use Rattle.parser.specs.Step.{
+  maxSections,
   noSort,
   ChangeFits,
   innermostOf,
@@ -48,7 +49,7 @@ pub struct Step {
 
 fn fixed(sections: [Section; 65], count: usize, sort: Sort) -> [Section; 65]
     requires { ⌜ 0 < count ⌝ }
-    requires { ⌜ count ≤ 65 ⌝ }
+    requires { ⌜ count ≤ maxSections ⌝ }
     ensures { λ r. ⌜ r ≡ set sections (count - 1) (record { sort = sort }) ⌝ }
 {
     let mut out = sections;
@@ -57,7 +58,7 @@ fn fixed(sections: [Section; 65], count: usize, sort: Sort) -> [Section; 65]
 }
 
 fn opened(sections: [Section; 65], count: usize) -> [Section; 65]
-    requires { ⌜ count < 65 ⌝ }
+    requires { ⌜ count < maxSections ⌝ }
     ensures { λ r. ⌜ r ≡ set sections count noSort ⌝ }
 {
     let mut out = sections;

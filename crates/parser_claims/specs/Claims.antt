@@ -1,8 +1,9 @@
--- Claims 1 and 2 for the parser, over the lists of its rules.
+-- Claims about the law: 1 and 2 for the parser, over the lists of its rules. proofs/Claimed proves them.
 use Prim.Native.Nat.{ℕ, _*_, _≤_}
 use mathlib.Core.Path.{_≡_}
 use mathlib.Core.List.{List, [], _∷_}
 use lib.ListN.{length}
+use Rattle.text.specs.Numbers.{maxDocument, invalidUtf8, unexpectedIndent}
 use Rattle.tokenizer.specs.declared.token.Token.{Token}
 use Rattle.tokenizer_claims.specs.Claims.{PartsFit}
 use Rattle.parser.specs.Step.{fresh}
@@ -18,7 +19,7 @@ pub record Ended (d : List ℕ) : Type 0 where
   pub bound : length (parse d) ≤ 2 * length d
 
 abbrev pub Ends : Type 0
-Ends = (d : List ℕ) → length d ≤ 16777216 → Ended d
+Ends = (d : List ℕ) → length d ≤ maxDocument → Ended d
 
 -- every document has its list, and only one: the parser as a function over the tokenizer's list
 pub record TheList (d : List ℕ) : Type 0 where
@@ -35,7 +36,7 @@ TokenFits d t = PartsFit (Unit {0}) d t
 abbrev pub Fits : List ℕ → Answer → Type 0
 Fits d answer.End = ⊥
 Fits d (answer.Token t) = TokenFits d t
-Fits d (answer.Refused n l) = (1 ≤ n) × (n ≤ 7)
+Fits d (answer.Refused n l) = (invalidUtf8 ≤ n) × (n ≤ unexpectedIndent)
 
 abbrev pub All : (Answer → Type 0) → List Answer → Type 0
 All P [] = Unit {0}
@@ -43,4 +44,4 @@ All P (a ∷ l) = P a × All P l
 
 -- Claim 2, Fit. No fresh parsing answers 15
 abbrev pub Fit : Type 0
-Fit = (d : List ℕ) → length d ≤ 16777216 → All (Fits d) (parse d)
+Fit = (d : List ℕ) → length d ≤ maxDocument → All (Fits d) (parse d)

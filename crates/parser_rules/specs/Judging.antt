@@ -1,8 +1,10 @@
--- What the parser makes of an answer of the tokenizer, by the answer's number; and the ruling that stands for.
-use Prim.Native.Nat.{ℕ, _+_}
+-- Intermediate: what the parser makes of an answer of the tokenizer, by the answer's number; and the ruling that stands
+-- for. proofs/Law shows that it is the law's ruling.
+use Prim.Native.Nat.{ℕ}
 use mathlib.Core.Bool.{Bool, cond}
 use lib.Dec.{eqb, leb}
-use Rattle.tokenizer.specs.Token.{lineOf}
+use Rattle.text.specs.Numbers.{missingMultiline, unexpectedKey, unexpectedItem, unexpectedIndent}
+use Rattle.tokenizer.specs.Token.{refusalNumber, lineOf}
 use Rattle.tokenizer.specs.declared.token.Token.the-variants as token
 use Rattle.tokenizer.specs.declared.token.Token.{Token}
 use Rattle.tokenizer.specs.declared.state.Answer.{Answer as Came}
@@ -43,14 +45,14 @@ unfoldable pub outdentBy : ℕ → Judged
 outdentBy s = cond (eqb s 3) Unfit Closes
 
 unfoldable pub itemBy : ℕ → Judged
-itemBy s = cond (eqb s 1) (Refuses 6) (cond (eqb s 3) Unfit Listed)
+itemBy s = cond (eqb s 1) (Refuses unexpectedItem) (cond (eqb s 3) Unfit Listed)
 
 unfoldable pub keyBy : ℕ → Judged
-keyBy s = cond (eqb s 2) (Refuses 5) (cond (eqb s 3) Unfit Map)
+keyBy s = cond (eqb s 2) (Refuses unexpectedKey) (cond (eqb s 3) Unfit Map)
 
 unfoldable pub settledBy : ℕ → ℕ → Judged
 settledBy n s =
-    cond (eqb n 0) End (cond (eqb n 1) GivesOn (cond (eqb n 2) GivesOn (cond (eqb n 3) (Refuses 7)
+    cond (eqb n 0) End (cond (eqb n 1) GivesOn (cond (eqb n 2) GivesOn (cond (eqb n 3) (Refuses unexpectedIndent)
     (cond (eqb n 4) (outdentBy s) (cond (eqb n 5) (itemBy s) (cond (eqb n 6) (keyBy s) Unfit))))))
 
 unfoldable pub afterEntryBy : ℕ → Bool → Judged
@@ -61,7 +63,7 @@ unfoldable pub afterHintBy : ℕ → Judged
 afterHintBy n = cond (eqb n 1) GivesOn (cond (eqb n 2) GivesOn (cond (eqb n 9) Value RefusesEntry))
 
 unfoldable pub judgedBy : ℕ → ℕ → ℕ → Bool → Judged
-judgedBy n a s full = cond (leb 256 n) Passes (cond (eqb a 1) (afterEntryBy n full) (cond (eqb a 2) (afterHintBy n) (settledBy n s)))
+judgedBy n a s full = cond (leb (refusalNumber 0) n) Passes (cond (eqb a 1) (afterEntryBy n full) (cond (eqb a 2) (afterHintBy n) (settledBy n s)))
 
 -- the ruling that is meant, a being what was awaited, t the token that came and k what is kept of it
 unfoldable pub madeBy : Judged → Awaited → Token → Kept → Ruling
@@ -75,7 +77,7 @@ madeBy Hint a t k = givesOn t (awaited.Multiline (awaitedLine a)) change.Keep
 madeBy Value a t k = givesOn t awaited.Nothing change.Keep
 madeBy Passes a t k = ruling.End
 madeBy (Refuses n) a t k = refuses n (lineOf t) awaited.Nothing
-madeBy RefusesEntry a t k = refuses 4 (awaitedLine a) awaited.Nothing
+madeBy RefusesEntry a t k = refuses missingMultiline (awaitedLine a) awaited.Nothing
 madeBy End a t k = ruling.End
 madeBy Unfit a t k = ruling.Unfit
 

@@ -1,8 +1,9 @@
--- Document 01, 'Parser': what the parser makes of one answer of the tokenizer, as a ruling that knows neither the document nor
--- the record of sections.
-use Prim.Native.Nat.{ℕ, _+_}
+-- Law: document 01, 'Parser': what the parser makes of one answer of the tokenizer, as a ruling that knows neither the
+-- document nor the record of sections.
+use Prim.Native.Nat.{ℕ}
 use mathlib.Core.Bool.{Bool, true, false, cond}
-use Rattle.tokenizer.specs.Token.{Values, bare, tokenValues}
+use Rattle.text.specs.Numbers.{missingMultiline, unexpectedKey, unexpectedItem, unexpectedIndent}
+use Rattle.tokenizer.specs.Token.{Values, bare, refusalNumber, tokenValues}
 use Rattle.tokenizer.specs.declared.token.Token.{Token}
 use Rattle.tokenizer.specs.declared.token.Token.the-variants.{
   Newline,
@@ -38,7 +39,7 @@ use Rattle.parser_rules.specs.declared.ruling.Ruling.the-variants.{Says,
 unfoldable pub valuesOf : Answer → Values
 valuesOf answer.End = bare 0 0
 valuesOf (answer.Token t) = tokenValues t
-valuesOf (answer.Refused n l) = bare (256 + n) l
+valuesOf (answer.Refused n l) = bare (refusalNumber n) l
 
 -- the token is given on
 abbrev pub givesOn : Token → Awaited → Change → Ruling
@@ -81,10 +82,10 @@ onIndent t full = cond full Unfit (givesOn t awaited.Nothing Open)
 unfoldable pub settled : Innermost → Token → Ruling
 settled i (Newline l) = givesOn (Newline l) awaited.Nothing Keep
 settled i (Comment l p) = givesOn (Comment l p) awaited.Nothing Keep
-settled i (Indent l) = refuses 7 l awaited.Nothing
+settled i (Indent l) = refuses unexpectedIndent l awaited.Nothing
 settled i (Outdent l) = onOutdent (Outdent l) i
-settled i (ListItem l) = onEntry (ListItem l) l List 6 i
-settled i (MapKey l p) = onEntry (MapKey l p) l Map 5 i
+settled i (ListItem l) = onEntry (ListItem l) l List unexpectedItem i
+settled i (MapKey l p) = onEntry (MapKey l p) l Map unexpectedKey i
 settled i (Value l p) = Unfit
 settled i (MultilineHint l p) = Unfit
 settled i (MultilineValue l q p) = Unfit
@@ -107,14 +108,14 @@ afterEntry n full (NoValue l) = noValue n (kept.Token (NoValue l))
 unfoldable pub afterHint : ℕ → Token → Ruling
 afterHint n (Newline l) = givesOn (Newline l) (awaited.Multiline n) Keep
 afterHint n (Comment l p) = givesOn (Comment l p) (awaited.Multiline n) Keep
-afterHint n (Indent l) = refuses 4 n awaited.Nothing
-afterHint n (Outdent l) = refuses 4 n awaited.Nothing
-afterHint n (ListItem l) = refuses 4 n awaited.Nothing
-afterHint n (MapKey l p) = refuses 4 n awaited.Nothing
-afterHint n (Value l p) = refuses 4 n awaited.Nothing
-afterHint n (MultilineHint l p) = refuses 4 n awaited.Nothing
+afterHint n (Indent l) = refuses missingMultiline n awaited.Nothing
+afterHint n (Outdent l) = refuses missingMultiline n awaited.Nothing
+afterHint n (ListItem l) = refuses missingMultiline n awaited.Nothing
+afterHint n (MapKey l p) = refuses missingMultiline n awaited.Nothing
+afterHint n (Value l p) = refuses missingMultiline n awaited.Nothing
+afterHint n (MultilineHint l p) = refuses missingMultiline n awaited.Nothing
 afterHint n (MultilineValue l q p) = givesOn (MultilineValue l q p) awaited.Nothing Keep
-afterHint n (NoValue l) = refuses 4 n awaited.Nothing
+afterHint n (NoValue l) = refuses missingMultiline n awaited.Nothing
 
 unfoldable pub onToken : Awaited → Innermost → Bool → Token → Ruling
 onToken awaited.Nothing i full t = settled i t
@@ -125,7 +126,7 @@ onToken (awaited.Multiline l) i full t = afterHint l t
 unfoldable pub onEnd : Awaited → Ruling
 onEnd awaited.Nothing = End
 onEnd (awaited.Value l) = noValue l kept.End
-onEnd (awaited.Multiline l) = refuses 4 l awaited.Nothing
+onEnd (awaited.Multiline l) = refuses missingMultiline l awaited.Nothing
 
 -- a tokenizer refusal is given first of all
 unfoldable pub rulingOf : Awaited → Innermost → Bool → Came → Ruling

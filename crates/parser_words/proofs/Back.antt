@@ -1,15 +1,16 @@
 -- A parser's state is read back from its words.
-use Prim.Native.Nat.{ℕ, zero, suc, _+_}
+use Prim.Native.Nat.{ℕ, zero, suc, _≤_, _<_}
 use mathlib.Core.Path.{_≡_, refl, ap, _∙_, sym}
 use mathlib.Core.List.{List, [], _∷_, _++_, append-assoc}
-use mathlib.Core.Bool.{Bool, true, false, cond}
+use mathlib.Core.Bool.{false}
 use native.Mathlib.Omega.{arith}
 use lib.Dec.{eqb}
 use lib.ListN.{length, drop, getD}
 use lib.Seq.{drop-at, getD-drop, drop-drop}
+use borrow.Author.Tests.{ne-eqb}
 use Rattle.parser_rules.specs.Judging.{awaitedNumber, awaitedLine}
 use Rattle.tokenizer_words.proofs.Slots.{words-137}
-use Rattle.tokenizer_words.proofs.Standing.{state-back}
+use Rattle.tokenizer_words.proofs.Standing.{eqb-flag, state-back}
 use Rattle.tokenizer.specs.Token.{tokenValues}
 use Rattle.tokenizer.specs.declared.token.Token.{Token}
 use Rattle.tokenizer.specs.declared.token.Token.the-variants as token
@@ -22,36 +23,47 @@ use Rattle.parser_rules.specs.declared.ruling.Kept.the-variants as kept
 use Rattle.parser.specs.declared.state.Section.{Section}
 use Rattle.parser.specs.declared.state.State.{State}
 use Rattle.tokenizer_words.specs.Words.{flag, wordsOf, stateIn}
-use Rattle.tokenizer_words.specs.Rows.{rowOf}
 use Rattle.parser_words.specs.ParserWords.{sortWord, sortWords, awaitedWords, keptWords, middleWords, parserWords, sortIn, sectionsIn, awaitedIn, tokenBy, tokenIn, keptIn, parserIn}
+use Rattle.parser_words.specs.Claims.{TokensBack}
 
-token-back : (t : Token) (r : List ℕ) → tokenIn (rowOf (tokenValues t) ++ r) ≡ t
+-- a token's kind
+pub kinds : (t : Token) → (0 < tokenValues t .number) × (tokenValues t .number ≤ 10)
+unfolding tokenValues
+kinds (token.Newline l) = (omega arith, omega arith)
+kinds (token.Comment l p) = (omega arith, omega arith)
+kinds (token.Indent l) = (omega arith, omega arith)
+kinds (token.Outdent l) = (omega arith, omega arith)
+kinds (token.ListItem l) = (omega arith, omega arith)
+kinds (token.MapKey l p) = (omega arith, omega arith)
+kinds (token.Value l p) = (omega arith, omega arith)
+kinds (token.MultilineHint l p) = (omega arith, omega arith)
+kinds (token.MultilineValue l i p) = (omega arith, omega arith)
+kinds (token.NoValue l) = (omega arith, omega arith)
+
+pub not-0 : (t : Token) → eqb (tokenValues t .number) 0 ≡ false
+not-0 t = ne-eqb (tokenValues t .number) 0 (λ e. let k = kinds t .0 in omega arith)
+
+pub not-11 : (t : Token) → eqb (tokenValues t .number) 11 ≡ false
+not-11 t = ne-eqb (tokenValues t .number) 11 (λ e. let k = kinds t .1 in omega arith)
+
+pub tokens-back : TokensBack
 unfolding tokenIn tokenBy tokenValues
-token-back (token.Newline l) r = refl
-token-back (token.Comment l p) r = refl
-token-back (token.Indent l) r = refl
-token-back (token.Outdent l) r = refl
-token-back (token.ListItem l) r = refl
-token-back (token.MapKey l p) r = refl
-token-back (token.Value l p) r = refl
-token-back (token.MultilineHint l p) r = refl
-token-back (token.MultilineValue l i p) r = refl
-token-back (token.NoValue l) r = refl
+tokens-back (token.Newline l) r = refl
+tokens-back (token.Comment l p) r = refl
+tokens-back (token.Indent l) r = refl
+tokens-back (token.Outdent l) r = refl
+tokens-back (token.ListItem l) r = refl
+tokens-back (token.MapKey l p) r = refl
+tokens-back (token.Value l p) r = refl
+tokens-back (token.MultilineHint l p) r = refl
+tokens-back (token.MultilineValue l i p) r = refl
+tokens-back (token.NoValue l) r = refl
 
 kept-back : (k : Kept) (r : List ℕ) → keptIn (keptWords k ++ r) ≡ k
-unfolding keptIn keptWords tokenIn tokenBy tokenValues
+unfolding keptIn keptWords
 kept-back kept.Nothing r = refl
 kept-back kept.End r = refl
-kept-back (kept.Token (token.Newline l)) r = refl
-kept-back (kept.Token (token.Comment l p)) r = refl
-kept-back (kept.Token (token.Indent l)) r = refl
-kept-back (kept.Token (token.Outdent l)) r = refl
-kept-back (kept.Token (token.ListItem l)) r = refl
-kept-back (kept.Token (token.MapKey l p)) r = refl
-kept-back (kept.Token (token.Value l p)) r = refl
-kept-back (kept.Token (token.MultilineHint l p)) r = refl
-kept-back (kept.Token (token.MultilineValue l i p)) r = refl
-kept-back (kept.Token (token.NoValue l)) r = refl
+kept-back (kept.Token t) r = rw (not-0 t, not-11 t) (ap kept.Token (tokens-back t r))
 
 sort-back : (s : Sort) → sortIn (sortWord s) ≡ s
 unfolding sortIn sortWord
@@ -65,11 +77,6 @@ sections-back [] r zero e = refl
 sections-back [] r (suc n) e = absurd (omega arith)
 sections-back (s ∷ l) r zero e = absurd (omega arith)
 sections-back (s ∷ l) r (suc n) e = λ j. record { sort = sort-back (s .sort) j } ∷ sections-back l r n (omega arith) j
-
-eqb-flag : (b : Bool) → eqb (flag b) 1 ≡ b
-unfolding flag
-eqb-flag true = refl
-eqb-flag false = refl
 
 awaited-back : (a : Awaited) → awaitedIn (getD (awaitedWords a) 0 0) (getD (awaitedWords a) 1 0) ≡ a
 unfolding awaitedIn awaitedWords
@@ -131,10 +138,10 @@ module _ (s : State) (r : List ℕ) (e : length (s .tokenizer .indents) ≡ 64) 
       ≡ flag (s .refused) ∷ getD (awaitedWords (s .awaited)) 0 0 ∷ getD (awaitedWords (s .awaited)) 1 0 ∷ (keptWords (s .kept) ++ (s .count ∷ (sortWords (s .sections) ++ r)))
   tail = behind-137 ∙ middle-then s (sortWords (s .sections) ++ r)
 
-  refused-word : getD (parserWords s ++ r) 137 0 ≡ flag (s .refused)
+  pub refused-word : getD (parserWords s ++ r) 137 0 ≡ flag (s .refused)
   refused-word = sym (getD-drop 137 (parserWords s ++ r) 0 0) ∙ ap (λ x. getD x 0 0) tail
 
-  number-word : getD (parserWords s ++ r) 138 0 ≡ getD (awaitedWords (s .awaited)) 0 0
+  pub number-word : getD (parserWords s ++ r) 138 0 ≡ getD (awaitedWords (s .awaited)) 0 0
   number-word = sym (getD-drop 137 (parserWords s ++ r) 1 0) ∙ ap (λ x. getD x 1 0) tail
 
   line-word : getD (parserWords s ++ r) 139 0 ≡ getD (awaitedWords (s .awaited)) 1 0

@@ -1,2 +1,3 @@
 pub mod ParserWords
 pub mod Parsing
+pub mod Claims

@@ -1,6 +1,7 @@
--- A parser's state in the words of a lent slice: the tokenizer's 137; whether it has refused (0 or 1); what is awaited (0
--- nothing, 1 a value, 2 a multiline value) with its line; a row for what is kept (number 0 for nothing, 11 for End); the number
--- of open sections, and the sort of each of the 65 (0 unset, 1 map, 2 list). 213 words.
+-- The port's own, not document 01's, and told in include/conl.h: a parser's state in the words of a lent slice. The
+-- tokenizer's 137; whether it has refused (0 or 1); what is awaited (0 nothing, 1 a value, 2 a multiline value) with
+-- its line; a row for what is kept (number 0 for nothing, 11 for End); the number of open sections, and the sort of
+-- each of the 65 (0 unset, 1 map, 2 list). 213 words. proofs/Back shows that the state is read back from them.
 use Prim.Native.Nat.{ℕ, zero, suc, _+_}
 use mathlib.Core.List.{List, [], _∷_, _++_}
 use mathlib.Core.Bool.{Bool, true, cond, _&&_}
@@ -10,7 +11,7 @@ use Rattle.text.specs.declared.bytes.Part.{Part}
 use Rattle.tokenizer.specs.Token.{bare, tokenValues}
 use Rattle.tokenizer.specs.declared.token.Token.{Token}
 use Rattle.tokenizer.specs.declared.token.Token.the-variants as token
-use Rattle.parser.specs.Step.{fresh}
+use Rattle.parser.specs.Step.{maxSections, fresh}
 use Rattle.parser_rules.specs.declared.ruling.Sort.{Sort}
 use Rattle.parser_rules.specs.declared.ruling.Sort.the-variants.{Unset, Map, List as Listed}
 use Rattle.parser_rules.specs.declared.ruling.Awaited.{Awaited}
@@ -19,8 +20,12 @@ use Rattle.parser_rules.specs.declared.ruling.Kept.{Kept}
 use Rattle.parser_rules.specs.declared.ruling.Kept.the-variants as kept
 use Rattle.parser.specs.declared.state.Section.{Section}
 use Rattle.parser.specs.declared.state.State.{State}
-use Rattle.tokenizer_words.specs.Words.{flag, wordsOf, stateIn, readable}
+use Rattle.tokenizer_words.specs.Words.{tokenizerSize, flag, wordsOf, stateIn, readable}
 use Rattle.tokenizer_words.specs.Rows.{rowOf}
+
+-- how many words a parser's state has: the tokenizer's, eleven more, and one for each sort, 213
+abbrev pub parserSize : ℕ
+parserSize = tokenizerSize + 11 + maxSections
 
 unfoldable pub sortWord : Sort → ℕ
 sortWord Unset = 0
@@ -94,17 +99,17 @@ parserIn w = record {
   kept = keptIn (drop 140 w);
   awaited = awaitedIn (getD w 138 0) (getD w 139 0);
   refused = eqb (getD w 137 0) 1;
-  sections = sectionsIn 65 (drop 148 w);
+  sections = sectionsIn maxSections (drop 148 w);
   count = getD w 147 0;
 }
 
 -- the same where there are 213 words; else the fresh state
 unfoldable pub parserLoadedFrom : List ℕ → State
-parserLoadedFrom w = cond (leb 213 (length w)) (parserIn w) fresh
+parserLoadedFrom w = cond (leb parserSize (length w)) (parserIn w) fresh
 
 -- the words with the state at their front; unchanged where there are fewer than 213
 unfoldable pub parserStoredIn : State → List ℕ → List ℕ
-parserStoredIn s w = cond (leb 213 (length w)) (parserWords s ++ drop 213 w) w
+parserStoredIn s w = cond (leb parserSize (length w)) (parserWords s ++ drop parserSize w) w
 
 -- n words are sorts
 unfoldable pub areSorts : ℕ → List ℕ → Bool
@@ -114,10 +119,10 @@ areSorts (suc n) w = leb (getD w 0 0) 2 && areSorts n (drop 1 w)
 -- the words are a parser's state: there are 213, and each is one that stands for something; else they are an unfit state, 15
 unfoldable pub parserReadable : List ℕ → Bool
 parserReadable w =
-    leb 213 (length w)
+    leb parserSize (length w)
     && (readable w
-    && (leb (getD w 137 0) 1 && (leb (getD w 138 0) 2 && (leb (getD w 140 0) 11 && areSorts 65 (drop 148 w)))))
+    && (leb (getD w 137 0) 1 && (leb (getD w 138 0) 2 && (leb (getD w 140 0) 11 && areSorts maxSections (drop 148 w)))))
 
 -- the words with the fresh state at their front; unchanged where there are fewer than 213
 unfoldable pub freshParserIn : List ℕ → List ℕ
-freshParserIn w = cond (leb 213 (length w)) (parserWords fresh ++ drop 213 w) w
+freshParserIn w = cond (leb parserSize (length w)) (parserWords fresh ++ drop parserSize w) w

@@ -18,7 +18,9 @@ ghost use Prim.Native.Nat.{_≤_};
 ghost use lib.Dec.{leb};
 ghost use lib.ListN.{length, getD, drop};
 ghost use Rattle.tokenizer_words.specs.Words.{pasted};
+ghost use Rattle.parser.specs.Step.{maxSections};
 ghost use Rattle.parser_words.specs.ParserWords.{
+  parserSize,
   sortWord,
   sortWords,
   awaitedWords,
@@ -40,8 +42,8 @@ ghost use Rattle.parser_words.specs.ParserWords.{
 
 // Whether the last 65 words are sorts.
 fn are_sorts(w: &[usize]) -> bool
-    requires { ⌜ 213 ≤ length (now w) ⌝ }
-    ensures { λ r. ⌜ r ≡ areSorts 65 (drop 148 (now (w .entry))) ⌝ }
+    requires { ⌜ parserSize ≤ length (now w) ⌝ }
+    ensures { λ r. ⌜ r ≡ areSorts maxSections (drop 148 (now (w .entry))) ⌝ }
 {
     let mut i = 148;
     while i < 213 {
@@ -76,8 +78,8 @@ fn sort_in(n: usize) -> Sort
 }
 
 fn sections_in(w: &[usize]) -> [Section; 65]
-    requires { ⌜ 213 ≤ length (now w) ⌝ }
-    ensures { λ r. ⌜ r ≡ sectionsIn 65 (drop 148 (now (w .entry))) ⌝ }
+    requires { ⌜ parserSize ≤ length (now w) ⌝ }
+    ensures { λ r. ⌜ r ≡ sectionsIn maxSections (drop 148 (now (w .entry))) ⌝ }
 {
     let mut sections = [Section { sort: Sort::Unset }; 65];
     let mut i = 0;
@@ -228,7 +230,7 @@ fn middle(s: State) -> [usize; 11]
 
 // Writes the sorts where sections_in reads them.
 fn put_sorts(sections: [Section; 65], w: &mut [usize])
-    requires { ⌜ 213 ≤ length (now w) ⌝ }
+    requires { ⌜ parserSize ≤ length (now w) ⌝ }
     ensures { λ _. ⌜ now (w .exit) ≡ pasted (sortWords sections) 148 (now (w .entry)) ⌝ }
 {
     let mut k = 0;
@@ -242,7 +244,7 @@ fn put_sorts(sections: [Section; 65], w: &mut [usize])
 
 // Writes the state at the front of the words: true; or false, with nothing written, where there are fewer than 213.
 pub fn store_parser(s: State, words: &mut [usize]) -> bool
-    ensures { λ r. ⌜ r ≡ leb 213 (length (now (words .entry))) ⌝ }
+    ensures { λ r. ⌜ r ≡ leb parserSize (length (now (words .entry))) ⌝ }
     ensures { λ r. ⌜ now (words .exit) ≡ parserStoredIn s (now (words .entry)) ⌝ }
 {
     if words.len() < 213 {
@@ -259,7 +261,7 @@ pub fn store_parser(s: State, words: &mut [usize]) -> bool
 
 // Writes the fresh state at the front: true; or false, with nothing written, where there are fewer than 213 words.
 pub fn fresh_parser(state: &mut [usize]) -> bool
-    ensures { λ r. ⌜ r ≡ leb 213 (length (now (state .entry))) ⌝ }
+    ensures { λ r. ⌜ r ≡ leb parserSize (length (now (state .entry))) ⌝ }
     ensures { λ r. ⌜ now (state .exit) ≡ freshParserIn (now (state .entry)) ⌝ }
 {
     store_parser(State::new(), state)

@@ -1,13 +1,13 @@
 -- What comes: the words say what was kept, or the tokenizer's next; and it leads to the tokenizer's state after it.
-use Prim.Native.Nat.{ℕ, zero, suc, _+_, _≤_, _<_}
-use mathlib.Core.Path.{_≡_, refl, sym, ap, subst, _∙_}
-use mathlib.Core.List.{List, [], _∷_, _++_}
-use mathlib.Core.Bool.{true, false}
+use Prim.Native.Nat.{ℕ, zero, suc, _+_, _≤_}
+use mathlib.Core.Path.{_≡_, refl, sym, ap, _∙_}
+use mathlib.Core.List.{List, _++_}
+use mathlib.Core.Bool.{true}
 use native.Mathlib.Omega.{arith}
-use lib.Dec.{eqb, leb, ltb}
+use lib.Dec.{ltb}
 use lib.ListN.{length, drop, getD, List·getD-append}
 use lib.Seq.{getD-drop}
-use borrow.Author.Tests.{ne-eqb, ltb-true}
+use borrow.Author.Tests.{ltb-true}
 use Rattle.text.proofs.Cases.{by-bool}
 use Rattle.tokenizer.specs.Token.{bare, tokenValues}
 use Rattle.tokenizer.specs.Token.{valuesOf as cameValues}
@@ -15,8 +15,6 @@ use Rattle.tokenizer.specs.Step.{noPart, fit}
 use Rattle.tokenizer.specs.Front.{frontOf, saidBy, aheadOf}
 use Rattle.tokenizer.specs.declared.front.Said.{Said}
 use Rattle.tokenizer.specs.declared.front.Advanced.{Advanced}
-use Rattle.tokenizer.specs.declared.token.Token.{Token}
-use Rattle.tokenizer.specs.declared.token.Token.the-variants as token
 use Rattle.tokenizer_rules.specs.declared.plan.Change.the-variants as moves
 use Rattle.tokenizer.proofs.Fitness.{fitness}
 use Rattle.tokenizer.proofs.Kept.{step-fit}
@@ -26,38 +24,20 @@ use Rattle.parser_rules.specs.declared.ruling.Sort.{Sort}
 use Rattle.parser_rules.specs.declared.ruling.Sort.the-variants as sort
 use Rattle.parser_rules.specs.declared.ruling.Kept.{Kept}
 use Rattle.parser_rules.specs.declared.ruling.Kept.the-variants as kept
-use Rattle.parser_rules.specs.declared.ruling.Innermost.the-variants.{Missing, Of}
+use Rattle.parser_rules.specs.declared.ruling.Innermost.the-variants.{Of}
 use Rattle.parser.specs.Step.{noSort, innermostOf, cameOf}
 use Rattle.parser.specs.declared.state.Section.{Section}
 use Rattle.tokenizer_words.specs.Words.{wordsOf, stateIn}
 use Rattle.tokenizer_words.specs.Rows.{rowOf}
 use Rattle.tokenizer_words.proofs.Standing.{slots-64}
+use Rattle.tokenizer_words.proofs.Slotted.{step-slots}
 use Rattle.parser_words.specs.ParserWords.{sortWord, sortWords, keptWords}
 use Rattle.step_words.specs.Fronts.{committed}
 use Rattle.step_words.specs.Stepping.{keptNumber, cameIn, sortAt}
 use Rattle.step_words.specs.declared.step.Layer.the-variants.{Parser}
-use Rattle.step_words.proofs.Fronts.{stepped, step-slots, step-committed}
+use Rattle.step_words.proofs.Fronts.{stepped, step-committed}
 use Rattle.parser_words.proofs.Sorts.{sort-words-length, sort-word-at}
-
--- a token's kind
-pub kinds : (t : Token) → (0 < tokenValues t .number) × (tokenValues t .number ≤ 10)
-unfolding tokenValues
-kinds (token.Newline l) = (omega arith, omega arith)
-kinds (token.Comment l p) = (omega arith, omega arith)
-kinds (token.Indent l) = (omega arith, omega arith)
-kinds (token.Outdent l) = (omega arith, omega arith)
-kinds (token.ListItem l) = (omega arith, omega arith)
-kinds (token.MapKey l p) = (omega arith, omega arith)
-kinds (token.Value l p) = (omega arith, omega arith)
-kinds (token.MultilineHint l p) = (omega arith, omega arith)
-kinds (token.MultilineValue l i p) = (omega arith, omega arith)
-kinds (token.NoValue l) = (omega arith, omega arith)
-
-not-0 : (t : Token) → eqb (tokenValues t .number) 0 ≡ false
-not-0 t = ne-eqb (tokenValues t .number) 0 (λ e. let k = kinds t .0 in omega arith)
-
-not-11 : (t : Token) → eqb (tokenValues t .number) 11 ≡ false
-not-11 t = ne-eqb (tokenValues t .number) 11 (λ e. let k = kinds t .1 in omega arith)
+use Rattle.parser_words.proofs.Back.{not-0, not-11}
 
 -- the innermost sort, by number
 of-sort : (s : Sort) → sortWord s ≡ sortNumber (Of s)
@@ -105,7 +85,7 @@ module _ (d w : List ℕ) (l : length d ≤ 16777216) (h : 137 ≤ length w) (f 
         record {
           said = ap (λ (m : Advanced). m .said) q ∙ step-said d (stateIn w) l f;
           words = ap (λ m. committed m w) q ∙ step-committed d w l h f;
-          slots = step-slots d (stateIn w) l f ∙ slots-64 w;
+          slots = step-slots d (stateIn w) ∙ slots-64 w;
           fits = step-fit d (stateIn w) l f;
         }
     comes kept.End e =

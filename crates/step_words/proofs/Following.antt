@@ -26,10 +26,11 @@ use Rattle.tokenizer_words.proofs.Slots.{words-137}
 use Rattle.tokenizer_words.proofs.Standing.{state-back}
 use Rattle.parser_words.specs.ParserWords.{parserWords}
 use Rattle.parser_words.specs.Parsing.{isStop, parsing}
+use Rattle.tokenizer_words.proofs.Slotted.{step-slots}
 use Rattle.step_words.specs.Stepping.{stopsAt, Gone, valuesBy, stepIn, stepping}
 use Rattle.step_words.specs.Claims.{Whole}
 use Rattle.step_words.specs.declared.step.Layer.the-variants.{Tokenizer as Tokens, Parser as Parses}
-use Rattle.step_words.proofs.Fronts.{step-slots, end-number}
+use Rattle.step_words.proofs.Fronts.{end-number}
 use Rattle.step_words.proofs.Going.{stop-is}
 use Rattle.step_words.proofs.Whole.{step-whole}
 use Rattle.step_words.proofs.Laws.{token-step, parser-step-of}
@@ -76,7 +77,7 @@ module _ (d r : List ℕ) (l : length d ≤ 16777216) where
             (λ e. rw e (rw (rw e at q) (rw (end-number (t .answer) ∙ e, ne-eqb (cameValues (t .answer) .number) 271 (λ z. omega (arith, step-number d s l (p .1)))))));
         says = λ e. ap (λ (g : Gone). valuesBy (g .said)) (rw e at q);
         next = λ e. ap (λ (g : Gone). g .words) (rw e at q);
-        after = (step-slots d s l (p .1) ∙ p .0, step-fit d s l (p .1));
+        after = (step-slots d s ∙ p .0, step-fit d s l (p .1));
       }
 
   pub tokens-follow : (n : ℕ) (s : Tokenizer) → Slotted d s

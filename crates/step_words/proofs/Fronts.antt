@@ -86,18 +86,6 @@ stepped w c i n f t h e k q =
     ap (slotIn c i n) p ∙ slot-in c i n (frontWordsBy f) (drop 137 w) is (by-9 f) (parts-length 64 (drop 9 w)) k
     ∙ rw (← q, e, front-by t, append-assoc)
 
-indents-length : (c : Change) (i : Part) (is : List Part) (n : ℕ) → length (indentsAfter c i is n) ≡ length is
-indents-length Keep i is n = refl
-indents-length Open i is n = length-set is n i
-indents-length Close i is n = refl
-indents-length Hold i is n = refl
-
--- a step keeps the number of slots
-pub step-slots : (d : List ℕ) (s : State) → length d ≤ 16777216 → fit (length d) s ≡ true → length (stepOf d s .state .indents) ≡ length (s .indents)
-step-slots d s l e =
-    let a = advancedOf d (frontOf s) (innerOf (s .indents) (s .depth)) in
-    ap length (step-indents d s l e) ∙ indents-length (a .change) (a .indent) (s .indents) (s .depth)
-
 -- what a step comes to, written: the words of the state after it
 pub step-committed : (d w : List ℕ) → length d ≤ 16777216 → 137 ≤ length w → fit (length d) (stateIn w) ≡ true
     → committed (aheadOf d (stateIn w)) w ≡ wordsOf (stepOf d (stateIn w) .state) ++ drop 137 w

@@ -1,10 +1,9 @@
 -- One step in place is the parser's step.
-use Prim.Native.Nat.{ℕ, _+_, _≤_, _<_}
+use Prim.Native.Nat.{ℕ, _≤_}
 use mathlib.Core.Path.{_≡_, refl, sym, ap, subst, _∙_}
 use mathlib.Core.List.{List, _++_}
 use mathlib.Core.Bool.{true, false}
 use native.Mathlib.Omega.{arith}
-use lib.Dec.{eqb}
 use lib.ListN.{length, drop, getD}
 use borrow.Author.Tests.{eq-eqb, ne-eqb, eqb-true}
 use Rattle.text.proofs.Cases.{by-bool, clash}
@@ -35,10 +34,10 @@ use Rattle.step_words.specs.Stepping.{cameIn, sortAt, judgedIn, outcomeF
 use Rattle.step_words.specs.declared.step.Layer.the-variants.{Parser}
 use Rattle.step_words.specs.declared.outcome.Outcome.{Outcome}
 use Rattle.parser_words.proofs.Sorts.{sections-length}
-use Rattle.parser_words.proofs.Back.{all-words, behind-137, number-at, line-at, kept-at, sorts-at}
+use Rattle.parser_words.proofs.Back.{kinds, all-words, behind-137, number-at, line-at, kept-at, sorts-at}
 use Rattle.step_words.proofs.Agreeing.{Leaves, agrees}
 use Rattle.step_words.proofs.Putting.{moved, put-is}
-use Rattle.step_words.proofs.Coming.{kinds, sort-is, Comes, comes}
+use Rattle.step_words.proofs.Coming.{sort-is, Comes, comes}
 
 -- the answers that stop, by their numbers
 pub stop-is : (a : Answer) → stopsAt (valuesOf a .number) ≡ isStop a

@@ -1,5 +1,5 @@
 -- What a judgement leaves, written into the words: the words of the state after the verdict.
-use Prim.Native.Nat.{ℕ, zero, suc, _+_, _-_, _≤_, _<_}
+use Prim.Native.Nat.{ℕ, zero, suc, _+_, _-_, _<_}
 use mathlib.Core.Path.{_≡_, refl, sym, ap, _∙_}
 use mathlib.Core.List.{List, [], _∷_, _++_, append-assoc}
 use native.Mathlib.Nat.{zero-add}
@@ -14,7 +14,7 @@ use Rattle.parser_rules.specs.declared.ruling.Verdict.{Verdict}
 use Rattle.parser.specs.Step.{ChangeFits, sectionsAfter, countAfter, afterVerdict}
 use Rattle.parser.specs.declared.state.Section.{Section}
 use Rattle.parser.specs.declared.state.State.{State}
-use Rattle.tokenizer_words.specs.Words.{pasted, pastedIn, flag, wordsOf}
+use Rattle.tokenizer_words.specs.Words.{pastedIn, flag, wordsOf}
 use Rattle.tokenizer_words.specs.Rows.{rowBy}
 use Rattle.tokenizer_words.proofs.Pasting.{pasted-room, pasted-front}
 use Rattle.tokenizer_words.proofs.Slots.{words-137}

@@ -13,17 +13,8 @@ use Rattle.tokenizer.specs.Token.{Values}
 use Rattle.tokenizer_words.specs.Words.{pasted, pastedIn}
 use Rattle.tokenizer_words.specs.Rows.{rowOf, rowsOf, rowsIn, Steps, Taken, taken}
 use Rattle.tokenizer_words.proofs.Pasting.{pasted-room, pasted-after}
+use Rattle.tokenizer_words.proofs.RowLists.{rows-append, rows-length}
 use Rattle.step_words.specs.Stepping.{lastOf}
-
-rows-append : (l m : List Values) → rowsOf (l ++ m) ≡ rowsOf l ++ rowsOf m
-unfolding rowsOf
-rows-append [] m = refl
-rows-append (v ∷ l) m = rw (rows-append l m)
-
-rows-length : (l : List Values) → length (rowsOf l) ≡ 7 * length l
-unfolding rowsOf
-rows-length [] = refl
-rows-length (v ∷ l) = omega (arith, rows-length l)
 
 -- one row more
 row-more : (l : List Values) (v : Values) (w : List ℕ) → pasted (rowOf v) (7 * length l) (rowsIn l w) ≡ rowsIn (l ++ (v ∷ [])) w

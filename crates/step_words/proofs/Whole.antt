@@ -29,8 +29,8 @@ use Rattle.tokenizer_words.proofs.Slots.{words-137}
 use Rattle.parser_words.specs.ParserWords.{parserWords, parserIn}
 use Rattle.parser_words.proofs.Sorts.{sort-words-length, middle-11}
 use Rattle.parser_words.proofs.Back.{parser-back}
+use Rattle.tokenizer_words.proofs.Slotted.{step-slots}
 use Rattle.step_words.specs.Claims.{Whole, Wholes}
-use Rattle.step_words.proofs.Fronts.{step-slots}
 
 sections-after : (c : Change) (l : List Section) (n : ℕ) → length (sectionsAfter c l n) ≡ length l
 unfolding sectionsAfter
@@ -52,7 +52,7 @@ module _ (d : List ℕ) (s : State) (h : Whole d s) where
   kept-whole : length d ≤ 16777216 → (k : Kept) → Whole d (stepKept d s k .state)
   unfolding stepKept stepWith
   kept-whole l kept.Nothing =
-      ruled (ruledFor kept.Nothing) _ (step-slots d (s .tokenizer) l (h .fits) ∙ h .slots) (step-fit d (s .tokenizer) l (h .fits))
+      ruled (ruledFor kept.Nothing) _ (step-slots d (s .tokenizer) ∙ h .slots) (step-fit d (s .tokenizer) l (h .fits))
   kept-whole l kept.End = ruled (ruledFor kept.End) (s .tokenizer) (h .slots) (h .fits)
   kept-whole l (kept.Token x) = ruled (ruledFor (kept.Token x)) (s .tokenizer) (h .slots) (h .fits)
 

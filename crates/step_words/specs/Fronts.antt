@@ -1,4 +1,4 @@
--- INTERMEDIATE, tied to the law by proofs/Fronts: what one step of the tokenizer leaves in the words.
+-- Intermediate, tied to the law by proofs/Fronts: what one step of the tokenizer leaves in the words.
 use Prim.Native.Nat.{ℕ, _+_, _*_}
 use mathlib.Core.List.{List, [], _∷_, _++_}
 use mathlib.Core.Bool.{cond}

@@ -1,4 +1,4 @@
--- INTERMEDIATE, tied to the law by proofs/Agreeing and Putting: what a judgement of the parser's leaves, and its words.
+-- Intermediate, tied to the law by proofs/Agreeing and Putting: what a judgement of the parser's leaves, and its words.
 use Prim.Native.Nat.{ℕ, _+_, _≤_}
 use mathlib.Core.List.{List, [], _∷_, _++_}
 use mathlib.Core.Bool.{true, false, cond}
@@ -72,10 +72,10 @@ outcomeBy Listed s n l = given s 1 (s .line) (Fix sort.List)
 outcomeBy Hint s n l = given s 2 l Keep
 outcomeBy Value s n l = given s 0 0 Keep
 outcomeBy Passes s n l = denied s n l
-outcomeBy (Refuses k) s n l = denied (saidBy (bare (256 + k) (s .line))) 0 0
-outcomeBy RefusesEntry s n l = denied (saidBy (bare 260 l)) 0 0
+outcomeBy (Refuses k) s n l = denied (saidBy (bare (refusalNumber k) (s .line))) 0 0
+outcomeBy RefusesEntry s n l = denied (saidBy (bare (refusalNumber missingMultiline) l)) 0 0
 outcomeBy End s n l = given nothing 0 0 Keep
-outcomeBy Unfit s n l = denied (saidBy (bare 271 0)) 0 0
+outcomeBy Unfit s n l = denied (saidBy (bare (refusalNumber unfitState) 0)) 0 0
 
 -- the eleven middle words, n sections being open
 abbrev pub middleBy : Outcome → ℕ → List ℕ

@@ -1,4 +1,4 @@
--- INTERMEDIATE, tied to the law by proofs/Going: one step of a state in words, in place. Of the words of a fit state it is the
+-- Intermediate, tied to the law by proofs/Going: one step of a state in words, in place. Of the words of a fit state it is the
 -- step of specs/Step, the tokenizer's or the parser's; of any others it is stated too, so that it asks nothing.
 use Prim.Native.Nat.{ℕ, zero, suc, _+_}
 use mathlib.Core.List.{List}

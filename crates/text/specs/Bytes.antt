@@ -1,5 +1,6 @@
--- Document 01, 'Bytes and UTF-8': blanks, line breaks, the line's end. A text is the list of its bytes.
+-- Law: document 01, 'Bytes and UTF-8': blanks, line breaks, the line's end. A text is the list of its bytes.
 use Prim.Native.Nat.{ℕ, zero, suc}
+use Prim.Native.Char.{code as byte}
 use mathlib.Core.List.{List, [], _∷_}
 use mathlib.Core.Bool.{Bool, true, false, cond, not, _||_, _&&_}
 use lib.Dec.{eqb}
@@ -8,11 +9,11 @@ use Rattle.text.specs.declared.bytes.First.the-variants.{Byte, Nothing}
 
 -- a blank: a space or a tab
 unfoldable pub isBlank : ℕ → Bool
-isBlank b = eqb b 32 || eqb b 9
+isBlank b = eqb b (byte " ") || eqb b (byte "\t")
 
 -- CR or LF
 unfoldable pub isBreak : ℕ → Bool
-isBreak b = eqb b 13 || eqb b 10
+isBreak b = eqb b (byte "\r") || eqb b (byte "\n")
 
 abbrev pub notBreak : ℕ → Bool
 notBreak b = not (isBreak b)
@@ -26,7 +27,7 @@ firstOf (b ∷ r) = Byte b
 unfoldable pub breakSize : List ℕ → ℕ
 breakSize [] = 0
 breakSize (b ∷ []) = cond (isBreak b) 1 0
-breakSize (b ∷ c ∷ r) = cond (isBreak b) (cond (eqb b 13 && eqb c 10) 2 1) 0
+breakSize (b ∷ c ∷ r) = cond (isBreak b) (cond (eqb b (byte "\r") && eqb c (byte "\n")) 2 1) 0
 
 -- how many bytes at the front pass the test
 unfoldable pub countWhile : (ℕ → Bool) → List ℕ → ℕ

@@ -1,5 +1,5 @@
--- Scalar values, and their encoding by the arithmetic of Table 3-6 of the Unicode Standard. Nothing here rests on Table 3-7:
--- proofs/Unicode shows that the two agree.
+-- Law: the scalar values, of document 01, 'Unescaping', and their encoding by the arithmetic of Table 3-6 of the
+-- Unicode Standard. Nothing here rests on Table 3-7: proofs/Unicode shows that the two agree.
 use Prim.Native.Nat.{ℕ, _+_, _/_, _%_}
 use mathlib.Core.Path.{_≡_}
 use mathlib.Core.Logic.{_↔_}

@@ -1,4 +1,4 @@
--- Document 01, 'Bytes and UTF-8': trimming, over which bytes it drops.
+-- Law: document 01, 'Bytes and UTF-8': trimming, over which bytes it drops.
 use Prim.Native.Nat.{ℕ, zero, suc}
 use mathlib.Core.List.{List, [], _∷_}
 use mathlib.Core.Bool.{Bool, true, false, cond, _||_}

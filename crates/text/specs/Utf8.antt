@@ -1,5 +1,5 @@
--- Well-formed UTF-8 by Table 3-7 of the Unicode Standard: the lead byte's range decides how many bytes follow and the
--- range of the second; every later one is 80 to BF.
+-- Law: document 01, 'Bytes and UTF-8': well-formed UTF-8 by Table 3-7 of the Unicode Standard. The lead byte's range
+-- decides how many bytes follow and the range of the second; every later one is 80 to BF.
 use Prim.Native.Nat.{ℕ, zero, suc}
 use mathlib.Core.List.{List, [], _∷_}
 use mathlib.Core.Bool.{Bool, true, false, cond, _&&_}

@@ -2,6 +2,7 @@
 use Prim.Native.Nat.{ℕ}
 use mathlib.Core.Path.{_≡_, refl}
 use mathlib.Core.List.{List, [], _∷_}
+use Rattle.text.specs.Ascii.{ascii}
 use Rattle.text.specs.Bytes.{isBlank, isBreak, breakSize, countWhile, startsWith}
 use Rattle.text.specs.Trimming.{dropped, keptEnd, trimmed}
 use Rattle.text.specs.Utf8.{within, leadOf, owes, utf8}
@@ -119,23 +120,23 @@ unfolding rules
 empty = refl
 
 -- `a = """"b`: key, refusal 2, key
-pub four-quotes : tokens (97 ∷ 32 ∷ 61 ∷ 32 ∷ 34 ∷ 34 ∷ 34 ∷ 34 ∷ 98 ∷ []) ≡ Token (token.MapKey 1 (part 0 1)) ∷ Refused 2 1 ∷ Token (token.MapKey 1 (part 4 9)) ∷ []
+pub four-quotes : tokens (ascii "a = \"\"\"\"b") ≡ Token (token.MapKey 1 (part 0 1)) ∷ Refused 2 1 ∷ Token (token.MapKey 1 (part 4 9)) ∷ []
 unfolding rules
 four-quotes = refl
 
 -- `a = """` LF `;x`: the empty key before the comment
-pub hint-then-comment : tokens (97 ∷ 32 ∷ 61 ∷ 32 ∷ 34 ∷ 34 ∷ 34 ∷ 10 ∷ 59 ∷ 120 ∷ [])
+pub hint-then-comment : tokens (ascii "a = \"\"\"\n;x")
     ≡ Token (token.MapKey 1 (part 0 1)) ∷ Token (token.MultilineHint 1 (part 7 7)) ∷ Token (token.Newline 1) ∷ Token (token.MapKey 2 (part 8 8)) ∷ Token (token.Comment 2 (part 9 10)) ∷ []
 unfolding rules
 hint-then-comment = refl
 
 -- one space then `a`
-pub space-a : tokens (32 ∷ 97 ∷ []) ≡ Token (token.Indent 1) ∷ Token (token.MapKey 1 (part 1 2)) ∷ Token (token.Outdent 1) ∷ []
+pub space-a : tokens (ascii " a") ≡ Token (token.Indent 1) ∷ Token (token.MapKey 1 (part 1 2)) ∷ Token (token.Outdent 1) ∷ []
 unfolding rules
 space-a = refl
 
 -- `k` LF ` a = """` LF `  x`: the Outdent is on line 4
-pub outdent-on-line-four : tokens (107 ∷ 10 ∷ 32 ∷ 97 ∷ 32 ∷ 61 ∷ 32 ∷ 34 ∷ 34 ∷ 34 ∷ 10 ∷ 32 ∷ 32 ∷ 120 ∷ [])
+pub outdent-on-line-four : tokens (ascii "k\n a = \"\"\"\n  x")
     ≡ Token (token.MapKey 1 (part 0 1))
     ∷ Token (token.Newline 1)
     ∷ Token (token.Indent 2)

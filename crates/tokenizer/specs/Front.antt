@@ -1,15 +1,16 @@
--- A step without the record of the open indentations: it is told the innermost one, and says what becomes of the record. It
--- tests of a state only what it uses. proofs/Advancing shows that of a fit state it is the step.
+-- Intermediate: a step without the record of the open indentations. It is told the innermost one, and says what becomes
+-- of the record; it tests of a state only what it uses. proofs/Advancing shows that of a fit state it is the step.
 use Prim.Native.Nat.{ℕ, _+_}
 use mathlib.Core.List.{List}
 use mathlib.Core.Bool.{Bool, cond, _&&_}
 use lib.ListN.{length, drop}
 use lib.Dec.{leb, ltb}
+use Rattle.text.specs.Numbers.{maxDocument, maxOpen, tooLong, unfitState}
 use Rattle.text.specs.declared.bytes.Part.{Part}
 use Rattle.tokenizer_rules.specs.Plan.{planAt}
 use Rattle.tokenizer_rules.specs.declared.plan.Change.the-variants.{Keep}
 use Rattle.tokenizer_rules.specs.declared.plan.Plan.{Plan}
-use Rattle.tokenizer.specs.Token.{Values, bare, valuesOf}
+use Rattle.tokenizer.specs.Token.{Values, bare, refusalNumber, valuesOf}
 use Rattle.tokenizer.specs.Step.{bytesOf, noPart, innerOf, indentOf, sizeOf, depthAfter, heldAfter, answerOf, fitPart, fitHeld}
 use Rattle.tokenizer.specs.declared.state.State.{State}
 use Rattle.tokenizer.specs.declared.front.Front.{Front}
@@ -53,16 +54,16 @@ advanceRule d f inner = advanceWith d f inner (indentOf (f .held) (f .place) (dr
 -- what a step uses of a state is fit: all but the open indentations below the innermost
 unfoldable pub near : ℕ → Front → Part → Bool
 near n f inner =
-    leb (f .place) n && (ltb 0 (f .line) && (leb (f .line) (f .place + 1) && (fitHeld n (f .held) && (leb (f .depth) 64 && fitPart n inner))))
+    leb (f .place) n && (ltb 0 (f .line) && (leb (f .line) (f .place + 1) && (fitHeld n (f .held) && (leb (f .depth) maxOpen && fitPart n inner))))
 
 -- a refusal that changes nothing
 abbrev pub staying : Front → ℕ → Advanced
-staying f n = record { said = saidBy (bare (256 + n) 0); front = f; change = Keep; indent = noPart }
+staying f n = record { said = saidBy (bare (refusalNumber n) 0); front = f; change = Keep; indent = noPart }
 
 -- 12, then 15, then the rules
 unfoldable pub advancedOf : List ℕ → Front → Part → Advanced
 advancedOf d f inner =
-    cond (ltb 16777216 (length d)) (staying f 12) (cond (near (length d) f inner) (advanceRule d f inner) (staying f 15))
+    cond (ltb maxDocument (length d)) (staying f tooLong) (cond (near (length d) f inner) (advanceRule d f inner) (staying f unfitState))
 
 -- the same of a state
 abbrev pub aheadOf : List ℕ → State → Advanced

@@ -1,12 +1,13 @@
--- Document 01, 'Parser': the tokenizer's list for a document holds every answer of the step, refusals among them, before the
--- first End; over the size limit it is the one refusal 12. The first call gets the fresh state, each later one the state that
--- the last one returned, and all get the same document.
+-- Law: document 01, 'Parser': the tokenizer's list for a document holds every answer of the step, refusals among them,
+-- before the first End; over the size limit it is the one refusal 12. The first call gets the fresh state, each later
+-- one the state that the last one returned, and all get the same document.
 use Prim.Native.Nat.{ℕ, zero, suc, _*_, _≤_, _<_}
 use mathlib.Core.Path.{_≡_}
 use mathlib.Core.List.{List, [], _∷_}
 use mathlib.Core.Bool.{Bool, true, false, cond}
 use lib.Dec.{ltb}
 use lib.ListN.{length}
+use Rattle.text.specs.Numbers.{maxDocument, tooLong}
 use Rattle.tokenizer.specs.Step.{stepOf, fresh}
 use Rattle.tokenizer.specs.declared.state.Answer.{Answer}
 use Rattle.tokenizer.specs.declared.state.Answer.the-variants.{End, Token, Refused}
@@ -26,10 +27,11 @@ pub data Reads (d : List ℕ) : State → List Answer → State → Type 0 where
 
 -- the tokenizer's list for a document
 pub data TokenList (d : List ℕ) : List Answer → Type 0 where
-  over : 16777216 < length d → TokenList d (Refused 12 0 ∷ [])
-  read : {as₁ : List Answer} {u : State} → length d ≤ 16777216 → Reads d fresh as₁ u → TokenList d as₁
+  over : maxDocument < length d → TokenList d (Refused tooLong 0 ∷ [])
+  read : {as₁ : List Answer} {u : State} → length d ≤ maxDocument → Reads d fresh as₁ u → TokenList d as₁
 
--- The list, computed. The reading crate shows that it is the one list that is read, and that the steps given here suffice.
+-- Intermediate: the list, computed. tokenizer_claims, proofs/Claimed, shows that it is the one list that is read, and
+-- that the steps given here suffice.
 unfoldable pub run : ℕ → List ℕ → State → List Answer
 run zero d s = []
 run (suc n) d s =
@@ -37,4 +39,4 @@ run (suc n) d s =
     cond (isEnd (stepOf d s .answer)) [] r
 
 unfoldable pub tokens : List ℕ → List Answer
-tokens d = let r = run (2 * length d) d fresh in cond (ltb 16777216 (length d)) (Refused 12 0 ∷ []) r
+tokens d = let r = run (2 * length d) d fresh in cond (ltb maxDocument (length d)) (Refused tooLong 0 ∷ []) r

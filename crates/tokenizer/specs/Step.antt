@@ -1,9 +1,11 @@
--- Document 01, 'Tokenizer': the state, the step over it, and the numbers 12 and 15.
+-- Law: document 01, 'Tokenizer': the state, the step over it, and the numbers 12 and 15 of its 'Numbers by the place
+-- where they are checked'.
 use Prim.Native.Nat.{ℕ, zero, suc, _+_, _-_, max}
 use mathlib.Core.List.{List, [], _∷_}
 use mathlib.Core.Bool.{Bool, true, false, cond, _&&_}
 use lib.ListN.{length, take, drop, getD, set, replicate}
 use lib.Dec.{leb, ltb}
+use Rattle.text.specs.Numbers.{maxDocument, maxOpen, tooLong, unfitState}
 use Rattle.text.specs.declared.bytes.Part.{Part}
 use Rattle.tokenizer_scans.specs.Scans.{blanks}
 use Rattle.tokenizer_rules.specs.Plan.{shiftedBy, planAt}
@@ -140,7 +142,7 @@ fitOpen n indents (suc k) = fitPart n (getD indents k noPart) && fitOpen n inden
 -- the state fits a document of n bytes: else it is unfit, 15
 unfoldable pub fit : ℕ → State → Bool
 fit n s =
-    leb (s .place) n && (ltb 0 (s .line) && (leb (s .line) (s .place + 1) && (fitHeld n (s .held) && (leb (s .depth) 64 && fitOpen n (s .indents) (s .depth)))))
+    leb (s .place) n && (ltb 0 (s .line) && (leb (s .line) (s .place + 1) && (fitHeld n (s .held) && (leb (s .depth) maxOpen && fitOpen n (s .indents) (s .depth)))))
 
 -- a refusal that gives the very state back
 abbrev pub refusal : ℕ → State → Step
@@ -148,7 +150,7 @@ refusal n s = record { answer = answer.Refused n 0; state = s }
 
 -- the step: 12, then 15, then the rules
 unfoldable pub stepOf : List ℕ → State → Step
-stepOf d s = cond (ltb 16777216 (length d)) (refusal 12 s) (cond (fit (length d) s) (stepRule d s) (refusal 15 s))
+stepOf d s = cond (ltb maxDocument (length d)) (refusal tooLong s) (cond (fit (length d) s) (stepRule d s) (refusal unfitState s))
 
 -- the fresh state
 unfoldable pub fresh : State
@@ -157,6 +159,6 @@ fresh = record {
   line = 1;
   marks = record { indent = true; value = false; multiline = false };
   held = Nothing;
-  indents = replicate 64 noPart;
+  indents = replicate maxOpen noPart;
   depth = 0;
 }

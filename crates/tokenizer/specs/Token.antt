@@ -1,8 +1,10 @@
--- Tokens in document 01's numbers: kinds 1 to 10, each with its line and its parts.
+-- Law: document 01, 'Look-up and listing': tokens in its numbers, kinds 1 to 10, each with its line and its parts; a
+-- refusal is 256 and its number, End 0. And a token's line and name, as 'What stays and what is written anew' has them.
 use Prim.Native.Nat.{ℕ, _+_}
 use mathlib.Core.List.{List, [], _∷_, _++_}
 use lib.ListN.{length, take, replicate}
 use Prim.Native.Nat.{min}
+use Rattle.text.specs.Ascii.{ascii}
 use Rattle.text.specs.declared.bytes.Part.{Part}
 use Rattle.tokenizer.specs.declared.token.Token.{Token}
 use Rattle.tokenizer.specs.declared.token.Token.the-variants.{
@@ -50,11 +52,15 @@ tokenValues (MultilineHint l p) = worded 8 l p
 tokenValues (MultilineValue l i p) = record { number = 9; line = l; start = p .start; end = p .end; from = i .start; to = i .end }
 tokenValues (NoValue l) = bare 10 l
 
+-- the number by which an answer says the refusal n: above the kinds
+abbrev pub refusalNumber : ℕ → ℕ
+refusalNumber n = 256 + n
+
 -- an answer's: 0 for End, 256 and the number for a refusal
 unfoldable pub valuesOf : Answer → Values
 valuesOf End = bare 0 0
 valuesOf (Gives t) = tokenValues t
-valuesOf (Refused n l) = bare (256 + n) l
+valuesOf (Refused n l) = bare (refusalNumber n) l
 
 -- the line on which a token starts
 unfoldable pub lineOf : Token → ℕ
@@ -69,18 +75,18 @@ lineOf (MultilineHint l p) = l
 lineOf (MultilineValue l i p) = l
 lineOf (NoValue l) = l
 
--- what a token is called, in ASCII
+-- what a token is called
 unfoldable pub nameOf : Token → List ℕ
-nameOf (Newline l) = 110 ∷ 101 ∷ 119 ∷ 108 ∷ 105 ∷ 110 ∷ 101 ∷ []
-nameOf (Comment l p) = 99 ∷ 111 ∷ 109 ∷ 109 ∷ 101 ∷ 110 ∷ 116 ∷ []
-nameOf (Indent l) = 105 ∷ 110 ∷ 100 ∷ 101 ∷ 110 ∷ 116 ∷ []
-nameOf (Outdent l) = 111 ∷ 117 ∷ 116 ∷ 100 ∷ 101 ∷ 110 ∷ 116 ∷ []
-nameOf (ListItem l) = 108 ∷ 105 ∷ 115 ∷ 116 ∷ 32 ∷ 105 ∷ 116 ∷ 101 ∷ 109 ∷ []
-nameOf (MapKey l p) = 109 ∷ 97 ∷ 112 ∷ 32 ∷ 107 ∷ 101 ∷ 121 ∷ []
-nameOf (Value l p) = 118 ∷ 97 ∷ 108 ∷ 117 ∷ 101 ∷ []
-nameOf (MultilineHint l p) = 109 ∷ 117 ∷ 108 ∷ 116 ∷ 105 ∷ 108 ∷ 105 ∷ 110 ∷ 101 ∷ 32 ∷ 104 ∷ 105 ∷ 110 ∷ 116 ∷ []
-nameOf (MultilineValue l i p) = 109 ∷ 117 ∷ 108 ∷ 116 ∷ 105 ∷ 108 ∷ 105 ∷ 110 ∷ 101 ∷ 32 ∷ 118 ∷ 97 ∷ 108 ∷ 117 ∷ 101 ∷ []
-nameOf (NoValue l) = 110 ∷ 111 ∷ 32 ∷ 118 ∷ 97 ∷ 108 ∷ 117 ∷ 101 ∷ []
+nameOf (Newline l) = ascii "newline"
+nameOf (Comment l p) = ascii "comment"
+nameOf (Indent l) = ascii "indent"
+nameOf (Outdent l) = ascii "outdent"
+nameOf (ListItem l) = ascii "list item"
+nameOf (MapKey l p) = ascii "map key"
+nameOf (Value l p) = ascii "value"
+nameOf (MultilineHint l p) = ascii "multiline hint"
+nameOf (MultilineValue l i p) = ascii "multiline value"
+nameOf (NoValue l) = ascii "no value"
 
 -- the first 16 bytes with zeros after them, and how many they are
 unfoldable pub padded : List ℕ → Name

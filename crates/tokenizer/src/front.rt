@@ -15,6 +15,7 @@ use tokenizer_rules::Says;
 ghost use mathlib.Core.Path.{_≡_};
 ghost use Prim.Native.Nat.{_+_, _<_, _≤_, _^_};
 ghost use lib.ListN.{length};
+ghost use Rattle.text.specs.Numbers.{maxDocument, maxOpen, unfitState};
 ghost use Rattle.tokenizer_rules.specs.Plan.{shiftedBy};
 ghost use Rattle.tokenizer.specs.Token.{bare, worded, valuesOf};
 ghost use Rattle.tokenizer.specs.Step.{answerOf, reach, depthAfter};
@@ -105,7 +106,7 @@ fn numbered(says: Says, line: usize, place: usize, indent: Part) -> Said
 
 // A refusal that changes nothing.
 fn stays(f: Front, number: usize) -> Advanced
-    requires { ⌜ number ≤ 15 ⌝ }
+    requires { ⌜ number ≤ unfitState ⌝ }
     ensures { λ r. ⌜ r ≡ staying f number ⌝ }
 {
     let said = say(256 + number, 0);
@@ -119,7 +120,7 @@ fn stays(f: Front, number: usize) -> Advanced
 
 // Whether what a step uses of a state is fit: all but the open indentations below the innermost.
 fn is_near(f: Front, inner: Part, n: usize) -> bool
-    requires { ⌜ n ≤ 16777216 ⌝ }
+    requires { ⌜ n ≤ maxDocument ⌝ }
     ensures { λ r. ⌜ r ≡ near n f inner ⌝ }
 {
     if n < f.place {
@@ -133,8 +134,8 @@ fn is_near(f: Front, inner: Part, n: usize) -> bool
 
 // What becomes of a plan, indent being the step's indentation.
 fn carried_out(f: Front, indent: Part, p: Plan) -> Advanced
-    requires { ⌜ f .depth ≤ 64 ⌝ }
-    requires { ⌜ depthAfter (p .change) (f .depth) ≤ 64 ⌝ }
+    requires { ⌜ f .depth ≤ maxOpen ⌝ }
+    requires { ⌜ depthAfter (p .change) (f .depth) ≤ maxOpen ⌝ }
     requires { ⌜ f .place + p .pass < 2 ^ 64 ⌝ }
     requires { ⌜ f .line + p .lines < 2 ^ 64 ⌝ }
     requires { ⌜ f .place + reach (p .says) < 2 ^ 64 ⌝ }

@@ -12,6 +12,7 @@ ghost use mathlib.Core.Bool.{true, cond};
 ghost use Prim.Native.Nat.{_+_, _-_, _<_, _≤_, _^_};
 ghost use lib.Dec.{eqb};
 ghost use lib.ListN.{length, drop, set};
+ghost use Rattle.text.specs.Numbers.{maxOpen};
 ghost use Rattle.tokenizer_rules.specs.Plan.{shiftedBy, planAt};
 ghost use Rattle.tokenizer.specs.Token.{valuesOf};
 ghost use Rattle.tokenizer.specs.Step.{
@@ -156,7 +157,7 @@ fn one_less(depth: usize) -> usize
 }
 
 pub(crate) fn depth_after(change: Change, depth: usize) -> usize
-    requires { ⌜ depth ≤ 64 ⌝ }
+    requires { ⌜ depth ≤ maxOpen ⌝ }
     ensures { λ r. ⌜ r ≡ depthAfter change depth ⌝ }
 {
     match change {
@@ -168,7 +169,7 @@ pub(crate) fn depth_after(change: Change, depth: usize) -> usize
 }
 
 fn indents_after(change: Change, indent: Part, indents: [Part; 64], depth: usize) -> [Part; 64]
-    requires { ⌜ depthAfter change depth ≤ 64 ⌝ }
+    requires { ⌜ depthAfter change depth ≤ maxOpen ⌝ }
     ensures { λ r. ⌜ r ≡ indentsAfter change indent indents depth ⌝ }
 {
     let mut out = indents;
@@ -222,7 +223,7 @@ impl State {
     // The longest document, in bytes, and the most sections open at once.
     pub const MAX_DOCUMENT: usize = 16_777_216;
 
-    pub const MAX_OPEN: usize = 64;
+    pub const MAX_OPEN: usize = tokenizer_rules::MAX_OPEN;
 
     // The state in which every reading begins.
     pub fn new() -> State
@@ -277,8 +278,8 @@ impl State {
 
     // The state after a plan, indent being the step's indentation.
     fn after(self, indent: Part, p: Plan) -> State
-        requires { ⌜ self .depth ≤ 64 ⌝ }
-        requires { ⌜ depthAfter (p .change) (self .depth) ≤ 64 ⌝ }
+        requires { ⌜ self .depth ≤ maxOpen ⌝ }
+        requires { ⌜ depthAfter (p .change) (self .depth) ≤ maxOpen ⌝ }
         requires { ⌜ self .place + p .pass < 2 ^ 64 ⌝ }
         requires { ⌜ self .line + p .lines < 2 ^ 64 ⌝ }
         ensures { λ r. ⌜ r ≡ afterPlan self indent p ⌝ }

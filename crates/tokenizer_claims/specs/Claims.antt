@@ -1,10 +1,11 @@
--- Claims 1 and 2 for the tokenizer, over the lists of its rules.
+-- Claims about the law: 1 and 2 for the tokenizer, over the lists of its rules. proofs/Claimed proves them.
 use Prim.Native.Nat.{ℕ, _*_, _≤_}
 use mathlib.Core.Path.{_≡_}
 use mathlib.Core.List.{List, [], _∷_}
 use mathlib.Core.Bool.{true}
 use lib.ListN.{length, drop}
 use Rattle.text.specs.Utf8.{utf8}
+use Rattle.text.specs.Numbers.{maxDocument, invalidUtf8, tooManyOpen}
 use Rattle.text.specs.declared.bytes.Part.{Part}
 use Rattle.tokenizer_scans.specs.Scans.{blanks}
 use Rattle.tokenizer.specs.Step.{bytesOf, stepOf, fresh}
@@ -36,7 +37,7 @@ pub record Ended (d : List ℕ) : Type 0 where
   pub closed : last .depth ≡ 0
 
 abbrev pub Ends : Type 0
-Ends = (d : List ℕ) → length d ≤ 16777216 → Ended d
+Ends = (d : List ℕ) → length d ≤ maxDocument → Ended d
 
 -- every document has its list, and only one
 pub record TheList (d : List ℕ) : Type 0 where
@@ -76,7 +77,7 @@ TokenFits d t = PartsFit ⊥ d t
 abbrev pub Fits : List ℕ → Answer → Type 0
 Fits d answer.End = ⊥
 Fits d (answer.Token t) = TokenFits d t
-Fits d (answer.Refused n l) = (1 ≤ n) × (n ≤ 3)
+Fits d (answer.Refused n l) = (invalidUtf8 ≤ n) × (n ≤ tooManyOpen)
 
 abbrev pub All : (Answer → Type 0) → List Answer → Type 0
 All P [] = Unit {0}
@@ -84,4 +85,4 @@ All P (a ∷ l) = P a × All P l
 
 -- Claim 2, Fit. No fresh reading answers 15, and no text or indentation of one is refused by 13
 abbrev pub Fit : Type 0
-Fit = (d : List ℕ) → length d ≤ 16777216 → All (Fits d) (tokens d)
+Fit = (d : List ℕ) → length d ≤ maxDocument → All (Fits d) (tokens d)

@@ -1,12 +1,15 @@
--- Document 01, 'Tokenizer': one step, rule by rule, as a plan that is counted from the step's place and knows neither place
--- nor line. Throughout, m are the marks, k is the size of the indentation at the place (0 where it was held), rest the
--- document from the place on, w the rest after the indentation.
+-- Law: document 01, 'Tokenizer': one step, rule by rule, as a plan that is counted from the step's place and knows
+-- neither place nor line. Throughout, m are the marks, k is the size of the indentation at the place (0 where it was
+-- held), rest the document from the place on, w the rest after the indentation.
 use Prim.Native.Nat.{ℕ, _+_}
+use Prim.Native.Char.{code as byte}
 use mathlib.Core.List.{List, [], _∷_}
 use mathlib.Core.Bool.{Bool, true, false, cond, not, _&&_}
 use lib.ListN.{take, drop}
 use lib.Dec.{eqb, ltb}
+use Rattle.text.specs.Ascii.{ascii}
 use Rattle.text.specs.Bytes.{isBreak, breakSize, lineEnd, startsWith}
+use Rattle.text.specs.Numbers.{maxOpen, invalidUtf8, charactersAfterQuotes, tooManyOpen}
 use Rattle.text.specs.declared.bytes.Part.{Part}
 use Rattle.text.specs.declared.trimming.Dropped.the-variants.{Blanks, BlanksAndBreaks}
 use Rattle.tokenizer_scans.specs.Scans.{relationOf, plainEnd, textEnd, checkedOf, beginsHint, eqSize, linesOf}
@@ -44,7 +47,7 @@ shiftedBy n p = record { start = n + p .start; end = n + p .end }
 -- a text that was read, as what a step says: 1 where it is not UTF-8
 abbrev pub said : (Part → Says) → Text → Says
 said f (Good p) = f p
-said f Bad = Refused 1
+said f Bad = Refused invalidUtf8
 
 abbrev pub withValue : Bool → Marks → Marks
 withValue v m = record { indent = m .indent; value = v; multiline = m .multiline }
@@ -66,6 +69,10 @@ planEnd m depth =
     (record { says = Outdent; pass = 0; lines = 0; marks = m; change = Close })
     (keeps End 0 m)
 
+-- Rule 4: the test, b being the first byte
+abbrev pub beginsComment : Marks → ℕ → Bool
+beginsComment m b = eqb b (byte ";") && not (m .indent && m .multiline)
+
 -- Rule 4: the comment; r is what stands after the `;`
 unfoldable pub planComment : Marks → ℕ → List ℕ → Plan
 planComment m k r = keeps (said (λ p. Comment (shiftedBy (k + 1) p)) (checkedOf Blanks (take (lineEnd r) r))) (k + 1 + lineEnd r) m
@@ -77,13 +84,14 @@ planItem m k = keeps ListItem (k + 1) (withValue true m)
 -- Key: a following `=` is passed
 unfoldable pub planKey : Marks → ℕ → List ℕ → Plan
 planKey m k w =
-    keeps (said (λ p. MapKey (shiftedBy k p)) (checkedOf Blanks (take (textEnd 61 w) w)))
-    (k + textEnd 61 w + eqSize (drop (textEnd 61 w) w))
+    keeps (said (λ p. MapKey (shiftedBy k p)) (checkedOf Blanks (take (textEnd (byte "=") w) w)))
+    (k + textEnd (byte "=") w + eqSize (drop (textEnd (byte "=") w) w))
     (withValue true m)
 
 -- Value
 unfoldable pub planPlain : Marks → ℕ → List ℕ → Plan
-planPlain m k w = keeps (said (λ p. Value (shiftedBy k p)) (checkedOf Blanks (take (textEnd 59 w) w))) (k + textEnd 59 w) m
+planPlain m k w =
+    keeps (said (λ p. Value (shiftedBy k p)) (checkedOf Blanks (take (textEnd (byte ";") w) w))) (k + textEnd (byte ";") w) m
 
 -- the multiline mark is set where the hint is UTF-8
 abbrev pub hintMarks : Text → Marks → Marks
@@ -93,9 +101,9 @@ hintMarks Bad m = m
 -- Hint; r is what stands after the three quotes. A fourth quote is 2, and the place does not move
 unfoldable pub planHint : Marks → ℕ → List ℕ → Plan
 planHint m k r =
-    let t = checkedOf Blanks (take (plainEnd 59 r) r) in
-    let hint = keeps (said (λ p. MultilineHint (shiftedBy (k + 3) p)) t) (k + 3 + plainEnd 59 r) (hintMarks t m) in
-    cond (startsWith (34 ∷ []) r) (keeps (Refused 2) 0 m) hint
+    let t = checkedOf Blanks (take (plainEnd (byte ";") r) r) in
+    let hint = keeps (said (λ p. MultilineHint (shiftedBy (k + 3) p)) t) (k + 3 + plainEnd (byte ";") r) (hintMarks t m) in
+    cond (startsWith (ascii "\"") r) (keeps (Refused charactersAfterQuotes) 0 m) hint
 
 -- A value that begins with three quotes is a hint
 unfoldable pub planValue : Marks → ℕ → List ℕ → Plan
@@ -103,7 +111,7 @@ planValue m k w = let hint = planHint m k (drop 3 w) in cond (beginsHint w) hint
 
 -- Rule 6; b is the first byte of w
 unfoldable pub planEntry : Marks → ℕ → ℕ → List ℕ → Plan
-planEntry m k b w = cond (m .value) (planValue (withValue false m) k w) (cond (eqb b 61) (planItem m k) (planKey m k w))
+planEntry m k b w = cond (m .value) (planValue (withValue false m) k w) (cond (eqb b (byte "=")) (planItem m k) (planKey m k w))
 
 -- Multiline value: its bytes are passed, its lines added, the indentation mark set
 unfoldable pub planMultiline : Marks → List ℕ → List ℕ → Plan
@@ -120,9 +128,9 @@ planMultiline m indent rest =
 -- Rule 5, deeper: Indent; with 64 open, 3, and the line is passed up to its break
 unfoldable pub planOpen : Marks → ℕ → ℕ → List ℕ → Plan
 planOpen m depth k w =
-    cond (ltb depth 64)
+    cond (ltb depth maxOpen)
     (record { says = Indent; pass = k; lines = 0; marks = m; change = Open })
-    (keeps (Refused 3) (k + lineEnd w) m)
+    (keeps (Refused tooManyOpen) (k + lineEnd w) m)
 
 -- Rule 5, neither equal nor deeper: Outdent; the indentation is held and its mark set
 unfoldable pub planOutdent : Marks → ℕ → Plan
@@ -156,7 +164,7 @@ unfoldable pub planOn : Marks → ℕ → List ℕ → List ℕ → List ℕ →
 planOn m depth inner indent rest k [] = planEnd m depth
 planOn m depth inner indent rest k (b ∷ r) =
     cond (isBreak b) (planNewline m k (b ∷ r))
-    (cond (eqb b 59 && not (m .indent && m .multiline)) (planComment m k r)
+    (cond (beginsComment m b) (planComment m k r)
     (cond (m .indent) (planIndented m depth inner indent rest k b (b ∷ r))
     (planEntry m k b (b ∷ r))))
 

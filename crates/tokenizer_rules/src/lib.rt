@@ -2,6 +2,7 @@
 mod plan;
 
 pub use plan::Change;
+pub use plan::MAX_OPEN;
 pub use plan::Marks;
 pub use plan::Plan;
 pub use plan::Says;

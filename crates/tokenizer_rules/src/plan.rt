@@ -16,16 +16,16 @@ use tokenizer_scans::relate;
 use tokenizer_scans::text_len;
 ghost use mathlib.Core.Path.{_≡_};
 ghost use Prim.Native.Nat.{_+_, _<_, _^_};
-ghost use mathlib.Core.Bool.{cond, not, _&&_};
+ghost use mathlib.Core.Bool.{cond};
 ghost use Rattle.tokenizer_scans.specs.Scans.{relationOf};
 ghost use Rattle.tokenizer_scans.specs.declared.readers.Relation.the-variants.{Equal};
-ghost use lib.Dec.{eqb};
 ghost use lib.ListN.{length};
 ghost use Rattle.tokenizer_rules.specs.Plan.{
   keeps,
   shiftedBy,
   planEnd,
   planNewline,
+  beginsComment,
   planComment,
   planKey,
   planHint,
@@ -38,6 +38,9 @@ ghost use Rattle.tokenizer_rules.specs.Plan.{
   planIndented,
   planAt,
 };
+
+// The most sections that are open at once, the top level apart: tokenizer::State has it as its own.
+pub const MAX_OPEN: usize = 64;
 
 // The three marks, the Rust's expect_indent, expect_value and expect_multiline.
 pub struct Marks {
@@ -142,7 +145,7 @@ fn end(m: Marks, depth: usize) -> Plan
 
 // The test of rule 4: `;`, unless the indentation and multiline marks are both set.
 fn is_comment(m: Marks, b: u8) -> bool
-    ensures { λ r. ⌜ r ≡ (eqb b 59 && not (m .indent && m .multiline)) ⌝ }
+    ensures { λ r. ⌜ r ≡ beginsComment m b ⌝ }
 {
     b == b';' && !(m.indent && m.multiline)
 }
@@ -242,12 +245,12 @@ fn consume_multiline(m: Marks, indent: &[u8], rest: &[u8]) -> Plan
     }
 }
 
-// Rule 5, deeper: a section opens, or is refused where 64 are open.
+// Rule 5, deeper: a section opens, or is refused where MAX_OPEN are open.
 fn open(m: Marks, depth: usize, k: usize, w: &[u8]) -> Plan
     requires { ⌜ k + length (now w) < 2 ^ 64 ⌝ }
     ensures { λ r. ⌜ r ≡ planOpen m depth k (now (w .entry)) ⌝ }
 {
-    if depth < 64 {
+    if depth < MAX_OPEN {
         Plan {
             says: Says::Indent,
             pass: k,

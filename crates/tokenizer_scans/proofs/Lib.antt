@@ -1,3 +1,4 @@
 pub mod Related
 pub mod Quotes
 pub mod Pieces
+pub mod LinesOfPieces

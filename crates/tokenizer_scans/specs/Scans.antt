@@ -1,9 +1,12 @@
--- The scans of document 01's token readers, over the rest of a document from somewhere on.
+-- Law: document 01, 'Tokenizer': the scans of its token readers (key, value, hint, multiline value), over the rest of a
+-- document from somewhere on.
 use Prim.Native.Nat.{ℕ, zero, suc, _+_}
+use Prim.Native.Char.{code as byte}
 use mathlib.Core.List.{List, [], _∷_}
 use mathlib.Core.Bool.{Bool, true, false, cond, not, _&&_, _||_}
 use lib.ListN.{length, take, drop}
 use lib.Dec.{eqb}
+use Rattle.text.specs.Ascii.{ascii}
 use Rattle.text.specs.Bytes.{isBreak, countWhile, lineEnd, startsWith}
 use Rattle.text.specs.Trimming.{dropped, trimmed}
 use Rattle.text.specs.Utf8.{utf8}
@@ -28,7 +31,7 @@ relationOf (a ∷ s) (b ∷ t) = let r = relationOf s t in cond (eqb a b) r Othe
 
 -- what ends a text outside quotes: CR, LF, `;`, and also `=` in a key
 unfoldable pub stops : ℕ → ℕ → Bool
-stops also b = isBreak b || (eqb b 59 || eqb b also)
+stops also b = isBreak b || (eqb b (byte ";") || eqb b also)
 
 -- how many bytes stand before that
 unfoldable pub plainEnd : ℕ → List ℕ → ℕ
@@ -38,13 +41,13 @@ plainEnd also s = countWhile (λ b. not (stops also b)) s
 unfoldable pub closing : Bool → List ℕ → ℕ
 closing escaped [] = 0
 closing escaped (b ∷ r) =
-    let n = suc (closing (eqb b 92 && not escaped) r) in
-    cond (isBreak b) 0 (cond (eqb b 34 && not escaped) 1 n)
+    let n = suc (closing (eqb b (byte "\\") && not escaped) r) in
+    cond (isBreak b) 0 (cond (eqb b (byte "\"") && not escaped) 1 n)
 
 -- the quotes that a text begins with
 unfoldable pub quotesEnd : List ℕ → ℕ
 quotesEnd [] = 0
-quotesEnd (b ∷ r) = let n = suc (closing false r) in cond (eqb b 34) n 0
+quotesEnd (b ∷ r) = let n = suc (closing false r) in cond (eqb b (byte "\"")) n 0
 
 -- a key's or a value's text: its quotes, then up to what ends it
 unfoldable pub textEnd : ℕ → List ℕ → ℕ
@@ -56,12 +59,12 @@ checkedOf which s = cond (utf8 s) (Good (trimmed (dropped which) s)) Bad
 
 -- three quotes in front
 unfoldable pub beginsHint : List ℕ → Bool
-beginsHint s = startsWith (34 ∷ 34 ∷ 34 ∷ []) s
+beginsHint s = startsWith (ascii "\"\"\"") s
 
 -- 1 where `=` stands in front
 unfoldable pub eqSize : List ℕ → ℕ
 eqSize [] = 0
-eqSize (b ∷ r) = cond (eqb b 61) 1 0
+eqSize (b ∷ r) = cond (eqb b (byte "=")) 1 0
 
 -- the first piece: through the first CR or LF, or all
 unfoldable pub piece : List ℕ → List ℕ
@@ -92,7 +95,7 @@ breaksAfter cr [] = 0
 breaksAfter cr (b ∷ r) =
     let c = suc (breaksAfter true r) in
     let n = breaksAfter false r in
-    cond (eqb b 13) c (cond (eqb b 10) (cond cr n (suc n)) n)
+    cond (eqb b (byte "\r")) c (cond (eqb b (byte "\n")) (cond cr n (suc n)) n)
 
 abbrev pub breaks : List ℕ → ℕ
 breaks s = breaksAfter false s
@@ -100,13 +103,13 @@ breaks s = breaksAfter false s
 -- the text is a lone LF
 unfoldable pub isLf : List ℕ → Bool
 isLf [] = false
-isLf (b ∷ []) = eqb b 10
+isLf (b ∷ []) = eqb b (byte "\n")
 isLf (b ∷ c ∷ r) = false
 
 -- the text ends in CR; of an empty one, what is given
 unfoldable pub endsInCr : Bool → List ℕ → Bool
 endsInCr before [] = before
-endsInCr before (b ∷ r) = endsInCr (eqb b 13) r
+endsInCr before (b ∷ r) = endsInCr (eqb b (byte "\r")) r
 
 -- the text ends in CR or LF; of an empty one, what is given
 unfoldable pub endsInBreak : Bool → List ℕ → Bool

@@ -67,7 +67,7 @@ unfolding heldWords
 held-back Nothing = refl
 held-back (At p) = refl
 
-eqb-flag : (b : Bool) → eqb (flag b) 1 ≡ b
+pub eqb-flag : (b : Bool) → eqb (flag b) 1 ≡ b
 unfolding flag
 eqb-flag true = refl
 eqb-flag false = refl

@@ -1,2 +1,3 @@
 pub mod Words
 pub mod Rows
+pub mod Claims

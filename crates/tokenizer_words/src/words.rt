@@ -7,7 +7,9 @@ ghost use mathlib.Core.Path.{_≡_};
 ghost use Prim.Native.Nat.{_≤_};
 ghost use lib.Dec.{leb};
 ghost use lib.ListN.{length, drop};
+ghost use Rattle.text.specs.Numbers.{maxOpen};
 ghost use Rattle.tokenizer_words.specs.Words.{
+  tokenizerSize,
   pasted,
   pastedIn,
   flag,
@@ -46,8 +48,8 @@ pub fn held_by(held: usize, start: usize, end: usize) -> Held
 
 // The slots stand after nine words, two words each.
 fn indents_in(w: &[usize]) -> [Part; 64]
-    requires { ⌜ 137 ≤ length (now w) ⌝ }
-    ensures { λ r. ⌜ r ≡ partsIn 64 (drop 9 (now (w .entry))) ⌝ }
+    requires { ⌜ tokenizerSize ≤ length (now w) ⌝ }
+    ensures { λ r. ⌜ r ≡ partsIn maxOpen (drop 9 (now (w .entry))) ⌝ }
 {
     let mut indents = [Part { start: 0, end: 0 }; 64];
     let mut i = 0;
@@ -140,7 +142,7 @@ pub fn paste(src: &[usize], at: usize, dst: &mut [usize])
 
 // Writes the slots where indents_in reads them.
 fn put_indents(indents: [Part; 64], w: &mut [usize])
-    requires { ⌜ 137 ≤ length (now w) ⌝ }
+    requires { ⌜ tokenizerSize ≤ length (now w) ⌝ }
     ensures { λ _. ⌜ now (w .exit) ≡ pasted (partWords indents) 9 (now (w .entry)) ⌝ }
 {
     let mut k = 0;
@@ -154,7 +156,7 @@ fn put_indents(indents: [Part; 64], w: &mut [usize])
 
 // Writes the state at the front of the words: true; or false, with nothing written, where there are fewer than 137.
 pub fn store(s: State, words: &mut [usize]) -> bool
-    ensures { λ r. ⌜ r ≡ leb 137 (length (now (words .entry))) ⌝ }
+    ensures { λ r. ⌜ r ≡ leb tokenizerSize (length (now (words .entry))) ⌝ }
     ensures { λ r. ⌜ now (words .exit) ≡ storedIn s (now (words .entry)) ⌝ }
 {
     if words.len() < 137 {
@@ -169,7 +171,7 @@ pub fn store(s: State, words: &mut [usize]) -> bool
 
 // Writes the fresh state at the front: true; or false, with nothing written, where there are fewer than 137 words.
 pub fn fresh(state: &mut [usize]) -> bool
-    ensures { λ r. ⌜ r ≡ leb 137 (length (now (state .entry))) ⌝ }
+    ensures { λ r. ⌜ r ≡ leb tokenizerSize (length (now (state .entry))) ⌝ }
     ensures { λ r. ⌜ now (state .exit) ≡ freshIn (now (state .entry)) ⌝ }
 {
     store(State::new(), state)

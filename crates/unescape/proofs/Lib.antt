@@ -4,3 +4,5 @@ pub mod Turns
 pub mod Writing
 pub mod Delivery
 pub mod Ruling
+pub mod Entries
+pub mod Shorter

@@ -1,9 +1,11 @@
--- Document 01, 'Unescaping': a token of a document with a lent buffer. 12, then 13, then 8 to 11, then 14.
+-- Law: document 01, 'Unescaping' and 'Numbers by the place where they are checked': a token of a document with a lent
+-- buffer. 12, then 13, then 8 to 11, then 14.
 use Prim.Native.Nat.{ℕ, _+_}
 use mathlib.Core.List.{List, [], _++_}
 use mathlib.Core.Bool.{cond, _&&_}
 use lib.Dec.{leb, ltb}
 use lib.ListN.{length, drop}
+use Rattle.text.specs.Numbers.{maxDocument, invalidEscape, tooLong, unfitToken, shortBuffer}
 use Rattle.tokenizer.specs.Token.{lineOf}
 use Rattle.tokenizer.specs.Step.{bytesOf, noPart}
 use Rattle.tokenizer.specs.declared.token.Token.{Token}
@@ -31,8 +33,8 @@ delivered (part a e) n l o = keptBuffer (Plain (record { start = n + a; end = n 
 delivered (bytes w) n l o =
     cond (leb (length w) (length o))
     (record { answer = Written (length w); buffer = w ++ drop (length w) o })
-    (keptBuffer (refusal 14 l) o)
-delivered (code a e) n l o = keptBuffer (Refused 8 l (record { start = n + a; end = n + e })) o
+    (keptBuffer (refusal shortBuffer l) o)
+delivered (code a e) n l o = keptBuffer (Refused invalidEscape l (record { start = n + a; end = n + e })) o
 delivered (refused r) n l o = keptBuffer (refusal r l) o
 
 abbrev pub wordsIn : List ℕ → Worded → Meaning
@@ -43,8 +45,8 @@ unfoldable pub unescapeOf : List ℕ → Token → List ℕ → Unescaped
 unescapeOf d t o =
     let w = wordsOf t in
     let u = delivered (wordsIn d w) (w .text .start) (lineOf t) o in
-    cond (ltb 16777216 (length d)) (keptBuffer (refusal 12 0) o)
-    (cond (sound d (w .text) && sound d (w .indent)) u (keptBuffer (refusal 13 (lineOf t)) o))
+    cond (ltb maxDocument (length d)) (keptBuffer (refusal tooLong 0) o)
+    (cond (sound d (w .text) && sound d (w .indent)) u (keptBuffer (refusal unfitToken (lineOf t)) o))
 
 -- the bytes of the part that is answered, else none
 abbrev pub shownBy : List ℕ → Answer → List ℕ

@@ -1,4 +1,5 @@
--- The walks over a text's pieces: what is measured of a meaning, and a buffer that it is written into.
+-- Intermediate: the walks over a text's pieces, what is measured of a meaning and a buffer that it is written into.
+-- proofs/Delivery (and proofs/Ruling for the plain part) show that they come to what the law delivers.
 use Prim.Native.Nat.{ℕ, _-_, _≤_}
 use mathlib.Core.List.{List, [], _++_}
 use lib.ListN.{length, take, drop}

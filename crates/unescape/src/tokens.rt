@@ -14,6 +14,7 @@ use unescape_pieces::words_of;
 ghost use mathlib.Core.Path.{_≡_};
 ghost use Prim.Native.Nat.{_+_, _≤_};
 ghost use lib.ListN.{length};
+ghost use Rattle.text.specs.Numbers.{maxDocument};
 ghost use Rattle.unescape_pieces.specs.Meaning.{meaning};
 ghost use Rattle.unescape_pieces.specs.Pieces.{startOf};
 ghost use Rattle.unescape.specs.Unescape.{refusal, delivered, unescapeOf, plainOf};
@@ -35,7 +36,7 @@ fn deliver(
     line: usize,
     out: &mut [u8],
 ) -> Answer
-    requires { ⌜ from + length (now s) ≤ 16777216 ⌝ }
+    requires { ⌜ from + length (now s) ≤ maxDocument ⌝ }
     ensures { λ r. ⌜ r ≡ delivered (meaning reading (now (s .entry)) (now (indent .entry))) from line (now (out .entry)) .answer ⌝ }
     ensures { λ _. ⌜ now (out .exit) ≡ delivered (meaning reading (now (s .entry)) (now (indent .entry))) from line (now (out .entry)) .buffer ⌝ }
 {

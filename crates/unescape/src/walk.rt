@@ -6,6 +6,7 @@ ghost use mathlib.Core.Path.{_≡_};
 ghost use mathlib.Core.List.{_++_};
 ghost use Prim.Native.Nat.{_≤_};
 ghost use lib.ListN.{length, drop};
+ghost use Rattle.text.specs.Numbers.{maxDocument};
 ghost use Rattle.text.specs.Scalar.{encodingOf};
 ghost use Rattle.unescape_pieces.specs.Pieces.{meaningFrom};
 ghost use Rattle.unescape.specs.Walk.{measuredOf, Fits, filled};
@@ -19,7 +20,7 @@ pub enum Measured {
 
 // The length of what is written from the cursor on, or why nothing is.
 pub(crate) fn measure(start: usize, first: Spot, indent: &[u8], s: &[u8]) -> Measured
-    requires { ⌜ length (now s) ≤ 16777216 ⌝ }
+    requires { ⌜ length (now s) ≤ maxDocument ⌝ }
     requires { ⌜ start ≤ length (now s) ⌝ }
     ensures { λ r. ⌜ r ≡ measuredOf (meaningFrom first (now (indent .entry)) (drop start (now (s .entry))) start) ⌝ }
 {

@@ -3,6 +3,7 @@
 use Prim.Native.Nat.{ℕ}
 use mathlib.Core.Path.{_≡_, refl}
 use mathlib.Core.List.{List, [], _∷_}
+use Rattle.text.specs.Ascii.{ascii}
 use Rattle.text.specs.Bytes.{isBreak, countWhile, startsWith}
 use Rattle.text.specs.Scalar.{isScalar, encoding}
 use Rattle.text.specs.Utf8.{within, leadOf, followed, charLen}
@@ -30,57 +31,57 @@ unfolding isBreak countWhile startsWith isScalar encoding within leadOf followed
 rules s = entryMeaning s
 
 -- `"\{0010FFFF}"` is the last scalar value
-pub last-scalar : entryMeaning (34 ∷ 92 ∷ 123 ∷ 48 ∷ 48 ∷ 49 ∷ 48 ∷ 70 ∷ 70 ∷ 70 ∷ 70 ∷ 125 ∷ 34 ∷ []) ≡ bytes (0xF4 ∷ 0x8F ∷ 0xBF ∷ 0xBF ∷ [])
+pub last-scalar : entryMeaning (ascii "\"\\{0010FFFF}\"") ≡ bytes (0xF4 ∷ 0x8F ∷ 0xBF ∷ 0xBF ∷ [])
 unfolding rules
 last-scalar = refl
 
 -- `"\{00110000}"` is 8, and the whole code is shown
-pub past-last : entryMeaning (34 ∷ 92 ∷ 123 ∷ 48 ∷ 48 ∷ 49 ∷ 49 ∷ 48 ∷ 48 ∷ 48 ∷ 48 ∷ 125 ∷ 34 ∷ []) ≡ code 1 12
+pub past-last : entryMeaning (ascii "\"\\{00110000}\"") ≡ code 1 12
 unfolding rules
 past-last = refl
 
 -- `"\{000000041}"`: nine digits
-pub nine-digits : entryMeaning (34 ∷ 92 ∷ 123 ∷ 48 ∷ 48 ∷ 48 ∷ 48 ∷ 48 ∷ 48 ∷ 48 ∷ 52 ∷ 49 ∷ 125 ∷ 34 ∷ []) ≡ code 1 13
+pub nine-digits : entryMeaning (ascii "\"\\{000000041}\"") ≡ code 1 13
 unfolding rules
 nine-digits = refl
 
 -- `"\{D800}"`: a surrogate
-pub surrogate : entryMeaning (34 ∷ 92 ∷ 123 ∷ 68 ∷ 56 ∷ 48 ∷ 48 ∷ 125 ∷ 34 ∷ []) ≡ code 1 8
+pub surrogate : entryMeaning (ascii "\"\\{D800}\"") ≡ code 1 8
 unfolding rules
 surrogate = refl
 
 -- `"\{}"`: no digit
-pub no-digit : entryMeaning (34 ∷ 92 ∷ 123 ∷ 125 ∷ 34 ∷ []) ≡ code 1 4
+pub no-digit : entryMeaning (ascii "\"\\{}\"") ≡ code 1 4
 unfolding rules
 no-digit = refl
 
 -- `"\{+41}"` is A
-pub plus : entryMeaning (34 ∷ 92 ∷ 123 ∷ 43 ∷ 52 ∷ 49 ∷ 125 ∷ 34 ∷ []) ≡ bytes (65 ∷ [])
+pub plus : entryMeaning (ascii "\"\\{+41}\"") ≡ bytes (ascii "A")
 unfolding rules
 plus = refl
 
 -- `"`: unclosed quotes
-pub unclosed : entryMeaning (34 ∷ []) ≡ refused 11
+pub unclosed : entryMeaning (ascii "\"") ≡ refused 11
 unfolding rules
 unclosed = refl
 
 -- `"a"b`: characters after the quotes
-pub extra : entryMeaning (34 ∷ 97 ∷ 34 ∷ 98 ∷ []) ≡ refused 10
+pub extra : entryMeaning (ascii "\"a\"b") ≡ refused 10
 unfolding rules
 extra = refl
 
 -- `"a\`: an escape at the end
-pub escape-at-end : entryMeaning (34 ∷ 97 ∷ 92 ∷ []) ≡ refused 9
+pub escape-at-end : entryMeaning (ascii "\"a\\") ≡ refused 9
 unfolding rules
 escape-at-end = refl
 
 -- `""` is the empty part between the quotes
-pub empty-quotes : entryMeaning (34 ∷ 34 ∷ []) ≡ part 1 1
+pub empty-quotes : entryMeaning (ascii "\"\"") ≡ part 1 1
 unfolding rules
 empty-quotes = refl
 
 -- two spaces of indentation, `x` CR LF `   y` LF ` ` LF `  z`: `x` LF ` y` LF LF `z`
-pub four-lines : blockMeaning (32 ∷ 32 ∷ []) (120 ∷ 13 ∷ 10 ∷ 32 ∷ 32 ∷ 32 ∷ 121 ∷ 10 ∷ 32 ∷ 10 ∷ 32 ∷ 32 ∷ 122 ∷ [])
-    ≡ bytes (120 ∷ 10 ∷ 32 ∷ 121 ∷ 10 ∷ 10 ∷ 122 ∷ [])
+pub four-lines : blockMeaning (ascii "  ") (ascii "x\r\n   y\n \n  z")
+    ≡ bytes (ascii "x\n y\n\nz")
 unfolding rules
 four-lines = refl

@@ -1,5 +1,6 @@
--- Document 01, 'Unescaping': the codes behind a backslash.
+-- Law: document 01, 'Unescaping': the codes behind a backslash.
 use Prim.Native.Nat.{ℕ, _+_, _-_, _*_}
+use Prim.Native.Char.{code as byte}
 use mathlib.Core.List.{List, [], _∷_}
 use mathlib.Core.Bool.{Bool, true, false, cond, _&&_, _||_}
 use lib.Dec.{eqb, leb}
@@ -9,9 +10,9 @@ use Rattle.text.specs.Utf8.{within}
 -- the value of a hexadecimal digit of either case, or 16
 unfoldable pub digitOf : ℕ → ℕ
 digitOf b =
-    cond (within 48 57 b) (b - 48)
-    (cond (within 65 70 b) (b - 55)
-    (cond (within 97 102 b) (b - 87) 16))
+    cond (within (byte "0") (byte "9") b) (b - byte "0")
+    (cond (within (byte "A") (byte "F") b) (b - (byte "A" - 10))
+    (cond (within (byte "a") (byte "f") b) (b - (byte "a" - 10)) 16))
 
 -- a number that names no scalar value
 abbrev pub noScalar : ℕ
@@ -30,7 +31,7 @@ digits (b ∷ r) = digitsFrom 0 (b ∷ r)
 -- an optional `+` in front
 unfoldable pub afterPlus : List ℕ → ℕ
 afterPlus [] = noScalar
-afterPlus (b ∷ r) = let m = digits r in cond (eqb b 43) m (digits (b ∷ r))
+afterPlus (b ∷ r) = let m = digits r in cond (eqb b (byte "+")) m (digits (b ∷ r))
 
 -- the number that the bytes between braces name: 1 to 8 of them
 unfoldable pub codeOf : List ℕ → ℕ
@@ -39,8 +40,8 @@ codeOf h = let n = afterPlus h in cond (leb (length h) 8) n noScalar
 -- the byte that a backslash and this byte stand for: `"`, `\`, `n`, `r`, `t`; 0 for any other
 unfoldable pub simpleOf : ℕ → ℕ
 simpleOf b =
-    cond (eqb b 34) 34
-    (cond (eqb b 92) 92
-    (cond (eqb b 110) 10
-    (cond (eqb b 114) 13
-    (cond (eqb b 116) 9 0))))
+    cond (eqb b (byte "\"")) (byte "\"")
+    (cond (eqb b (byte "\\")) (byte "\\")
+    (cond (eqb b (byte "n")) (byte "\n")
+    (cond (eqb b (byte "r")) (byte "\r")
+    (cond (eqb b (byte "t")) (byte "\t") 0))))

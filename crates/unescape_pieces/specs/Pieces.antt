@@ -1,6 +1,8 @@
--- Document 01, 'Unescaping', piece by piece: what stands at a cursor of a text, how many bytes are passed with it, and what
--- stands after them. proofs/Starts and proofs/Walking show that the pieces together are the meaning; the code is written by these.
+-- Intermediate: document 01's 'Unescaping' piece by piece, as the code is written: what stands at a cursor of a text,
+-- how many bytes are passed with it, and what stands after them. proofs/Starts and proofs/Walking show that the pieces
+-- together are the meaning.
 use Prim.Native.Nat.{ℕ, _+_}
+use Prim.Native.Char.{code as byte}
 use mathlib.Core.List.{List, [], _∷_, _++_}
 use mathlib.Core.Bool.{Bool, true, false, cond, not, _&&_, _||_}
 use lib.Dec.{eqb, ltb}
@@ -8,6 +10,7 @@ use lib.ListN.{length, take, drop, getD}
 use Rattle.text.specs.Bytes.{countWhile, lineEnd, breakSize, startsWith}
 use Rattle.text.specs.Scalar.{isScalar}
 use Rattle.text.specs.Utf8.{charLen}
+use Rattle.text.specs.Numbers.{escapeAtEnd, extraCharacters, unclosedQuotes}
 use Rattle.unescape_pieces.specs.Codes.{codeOf, simpleOf}
 use Rattle.unescape_pieces.specs.Meaning.{Meaning, part, bytes, plain, quoted, isEmpty, linesIn, without, laterLines, joinedLines}
 use Rattle.unescape_pieces.specs.declared.pieces.Spot.{Spot}
@@ -22,15 +25,15 @@ use Rattle.unescape_pieces.specs.declared.words.Start.the-variants.{Plai
 
 -- neither `"` nor the byte c
 abbrev pub isBefore : ℕ → ℕ → Bool
-isBefore c b = not (eqb b 34 || eqb b c)
+isBefore c b = not (eqb b (byte "\"") || eqb b c)
 
 -- a bare byte is neither `"` nor `\`
 abbrev pub isBare : ℕ → Bool
-isBare b = isBefore 92 b
+isBare b = isBefore (byte "\\") b
 
 -- a brace stops at `}` or `"`
 abbrev pub inBrace : ℕ → Bool
-inBrace b = isBefore 125 b
+inBrace b = isBefore (byte "}") b
 
 abbrev pub stopped : Piece → Next
 stopped p = record { piece = p; pass = 0; spot = Quotes }
@@ -41,7 +44,7 @@ passing p n w = record { piece = p; pass = n; spot = w }
 -- after `\{`: n bytes up to `}`, `"` or the end
 abbrev pub braced : List ℕ → ℕ → Next
 braced r n =
-    cond (eqb (getD r n 0) 125)
+    cond (eqb (getD r n 0) (byte "}"))
     (cond (isScalar (codeOf (take n r))) (passing (Scalar (codeOf (take n r))) (n + 3) Quotes) (stopped (Code (n + 3))))
     (stopped (Code (n + 2)))
 
@@ -50,16 +53,16 @@ braceNext r = braced r (countWhile inBrace r)
 
 -- after a backslash
 unfoldable pub escapeNext : List ℕ → Next
-escapeNext [] = stopped (Refused 9)
+escapeNext [] = stopped (Refused escapeAtEnd)
 escapeNext (b ∷ r) =
-    cond (eqb b 123) (braceNext r) (cond (eqb (simpleOf b) 0) (stopped (Code (1 + charLen (b ∷ r)))) (passing (Scalar (simpleOf b)) 2 Quotes))
+    cond (eqb b (byte "{")) (braceNext r) (cond (eqb (simpleOf b) 0) (stopped (Code (1 + charLen (b ∷ r)))) (passing (Scalar (simpleOf b)) 2 Quotes))
 
 -- in quotes
 unfoldable pub quotedNext : List ℕ → Next
-quotedNext [] = stopped (Refused 11)
+quotedNext [] = stopped (Refused unclosedQuotes)
 quotedNext (b ∷ r) =
-    cond (eqb b 34) (cond (isEmpty r) (stopped End) (stopped (Refused 10)))
-    (cond (eqb b 92) (escapeNext r) (passing (Run 0) (countWhile isBare (b ∷ r)) Quotes))
+    cond (eqb b (byte "\"")) (cond (isEmpty r) (stopped End) (stopped (Refused extraCharacters)))
+    (cond (eqb b (byte "\\")) (escapeNext r) (passing (Run 0) (countWhile isBare (b ∷ r)) Quotes))
 
 -- a line of a multiline value
 abbrev pub skipped : Bool → List ℕ → List ℕ → ℕ
@@ -72,10 +75,10 @@ lineNext later indent s = passing (Run (skipped later indent (take (lineEnd s) s
 unfoldable pub openedBy : List ℕ → ℕ
 openedBy s =
     cond (ltb (breakSize s) (length s)) (breakSize s)
-    (cond (eqb (breakSize s) 1) (cond (eqb (getD s 0 0) 13) 1 0) 0)
+    (cond (eqb (breakSize s) 1) (cond (eqb (getD s 0 0) (byte "\r")) 1 0) 0)
 
 unfoldable pub breakNext : List ℕ → Next
-breakNext s = cond (eqb (openedBy s) 0) (stopped End) (passing (Scalar 10) (openedBy s) LaterLine)
+breakNext s = cond (eqb (openedBy s) 0) (stopped End) (passing (Scalar (byte "\n")) (openedBy s) LaterLine)
 
 unfoldable pub nextOf : Spot → List ℕ → List ℕ → Next
 nextOf Quotes indent s = quotedNext s
@@ -104,8 +107,8 @@ unfoldable pub entryStart : List ℕ → Start
 entryStart [] = Plain 0 0
 entryStart (b ∷ r) =
     let n = countWhile isBare r in
-    cond (eqb b 34)
-    (cond (eqb (n + 1) (length r) && eqb (getD r n 0) 34) (Plain 1 (n + 1)) (Pieces 1 Quotes))
+    cond (eqb b (byte "\""))
+    (cond (eqb (n + 1) (length r) && eqb (getD r n 0) (byte "\"")) (Plain 1 (n + 1)) (Pieces 1 Quotes))
     (Plain 0 (length (b ∷ r)))
 
 unfoldable pub blockStart : List ℕ → Start

@@ -1,4 +1,4 @@
--- Document 01, 'Unescaping': a token's text and how it is read, and whether a part of the document may be read.
+-- Law: document 01, 'Unescaping': a token's text and how it is read, and whether a part of the document may be read.
 use Prim.Native.Nat.{ℕ}
 use mathlib.Core.List.{List}
 use mathlib.Core.Bool.{Bool, _&&_}

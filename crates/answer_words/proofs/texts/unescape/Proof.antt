@@ -6,7 +6,7 @@ use lib.ListN.{length}
 use borrow.Author.Tests.{lt-leb, le-leb, not-true, not-false}
 use Rattle.unescape.specs.declared.Answer.{Answer}
 use Rattle.unescape.specs.declared.Answer.the-variants.{Plain, Written, Refused}
-use Rattle.answer_words.specs.Texts.{answerWords, isToken, textOf}
+use Rattle.answer_words.specs.Texts.{answerWords, hasAnswer, textOf}
 use Rattle.tokenizer_words.proofs.Pasting.{pasted-room, pasted-front}
 use borrow.Author.Needs.{needs}
 use Rattle.answer_words.proofs.texts.unescape.Statement.{statement}
@@ -18,15 +18,15 @@ answer-5 (Plain p) = refl
 answer-5 (Written n) = refl
 answer-5 (Refused n l p) = refl
 
-told : (c : tie.Else1) → isToken (c .before .before .before .before .before .before .args .row .now) ≡ true
-told c = sym (c .before .is-token .ensures) ∙ not-false _ (c .if1 .left)
+told : (c : tie.Else1) → hasAnswer (c .before .before .before .before .before .before .args .doc .now) (c .before .before .before .before .before .before .args .row .now) ≡ true
+told c = sym (c .before .has-answer .ensures) ∙ not-false _ (c .if1 .left)
 
-is-token-requires : tie.Need-is-token-requires
-is-token-requires c κs = search needs
+has-answer-requires : tie.Need-has-answer-requires
+has-answer-requires c κs = search needs
 
 returns : tie.Need-returns
 unfolding textOf
-returns c = let e = sym (c .before .is-token .ensures) ∙ not-true _ (c .if1 .taken) in (rw e, (rw e, rw e))
+returns c = let e = sym (c .before .has-answer .ensures) ∙ not-true _ (c .if1 .taken) in (rw e, (rw e, rw e))
 
 returns-2 : tie.Need-returns-2
 unfolding textOf
@@ -74,7 +74,7 @@ pub unescape-spec : {M : Type 1} → statement M
 unescape-spec =
     tie.close
     (tie.spec
-    is-token-requires
+    has-answer-requires
     returns
     returns-2
     token-in-requires

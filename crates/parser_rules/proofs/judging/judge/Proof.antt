@@ -1,3 +1,4 @@
+-- What is awaited decides which of the three tables is asked.
 use borrow.Author.Tests.{ne-eqb, le-leb, lt-leb}
 use Rattle.parser_rules.specs.Judging.{outdentBy, itemBy, keyBy, settledBy, afterEntryBy, afterHintBy, judgedBy}
 use borrow.Author.Needs.{needs}

@@ -1,3 +1,4 @@
+-- Kind by kind, the number is that of `tokenValues`.
 use Rattle.tokenizer.specs.Token.{tokenValues}
 use borrow.Author.Needs.{needs}
 use Rattle.parser_rules.proofs.ruling.kind.Statement.{statement}

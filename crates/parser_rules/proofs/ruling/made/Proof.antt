@@ -1,3 +1,4 @@
+-- Judgement by judgement, the ruling is that of `madeBy`.
 use Rattle.parser_rules.specs.Judging.{madeBy}
 use borrow.Author.Needs.{needs}
 use Rattle.parser_rules.proofs.ruling.made.Statement.{statement}

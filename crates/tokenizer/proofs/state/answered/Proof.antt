@@ -1,3 +1,4 @@
+-- Kind by kind, with the part shifted by the place.
 use Rattle.tokenizer.specs.Step.{reach}
 use mathlib.Core.Path.{ap}
 use native.Mathlib.Omega.{arith}

@@ -1,3 +1,4 @@
+-- Change by change.
 use borrow.Author.Needs.{needs}
 use Rattle.tokenizer.proofs.state.depth_after.Statement.{statement}
 use Rattle.tokenizer.proofs.state.depth_after.Tie as tie

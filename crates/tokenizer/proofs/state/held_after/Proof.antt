@@ -1,3 +1,4 @@
+-- Change by change: only `Hold` leaves an indentation.
 use borrow.Author.Needs.{needs}
 use Rattle.tokenizer.proofs.state.held_after.Statement.{statement}
 use Rattle.tokenizer.proofs.state.held_after.Tie as tie

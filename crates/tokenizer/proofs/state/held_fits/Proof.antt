@@ -1,3 +1,4 @@
+-- Nothing held fits; else its part is tested.
 use borrow.Author.Needs.{needs}
 use Rattle.tokenizer.proofs.state.held_fits.Statement.{statement}
 use Rattle.tokenizer.proofs.state.held_fits.Tie as tie

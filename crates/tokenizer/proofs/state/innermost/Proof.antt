@@ -1,3 +1,4 @@
+-- None open is the empty indentation; else it is the last one's.
 use borrow.Author.Tests.{ne-eqb}
 use Rattle.tokenizer.proofs.state.innermost.Statement.{statement}
 use Rattle.tokenizer.proofs.state.innermost.Tie as tie

@@ -1,3 +1,4 @@
+-- The two tests of `fitPart`.
 use borrow.Author.Tests.{le-leb, lt-leb}
 use borrow.Author.Needs.{needs}
 use Rattle.tokenizer.proofs.state.part_fits.Statement.{statement}

@@ -1,3 +1,4 @@
+-- Byte by byte, each arm is its row of `simpleOf`.
 use borrow.Author.Tests.{ne-eqb}
 -- One arm for each escape of `simpleOf`.
 use Rattle.unescape_pieces.specs.Codes.{simpleOf}

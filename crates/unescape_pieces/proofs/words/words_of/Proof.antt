@@ -1,3 +1,4 @@
+-- Kind by kind, each arm is its row of `wordsOf`.
 use mathlib.Core.Path.{_∙_}
 -- One arm for each kind.
 use Rattle.unescape_pieces.specs.Words.{wordsOf}

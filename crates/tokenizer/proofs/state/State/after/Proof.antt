@@ -1,3 +1,4 @@
+-- The plan is added to the state, field by field.
 use Rattle.tokenizer.specs.Step.{afterPlan}
 use borrow.Author.Needs.{needs}
 use Rattle.tokenizer.proofs.state.State.after.Statement.{statement}

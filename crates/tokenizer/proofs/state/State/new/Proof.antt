@@ -1,3 +1,4 @@
+-- The fields are those of `fresh`.
 use mathlib.Core.Path.{refl}
 use Rattle.tokenizer.specs.Step.{fresh}
 use borrow.Author.Needs.{needs}

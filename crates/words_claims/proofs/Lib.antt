@@ -1,0 +1,3 @@
+pub mod Calling
+pub mod TokenBatches
+pub mod ParseBatches

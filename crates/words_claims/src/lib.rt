@@ -1,0 +1,1 @@
+// Theorems about the exported batches: see specs/.
