@@ -1,12 +1,13 @@
 -- THE LAW. Of the words of a fit state, the step in words is the tokenizer's step, or the parser's.
 use Prim.Native.Nat.{ℕ, _≤_, _<_}
 use mathlib.Core.Path.{_≡_, refl, sym, ap, subst, _∙_}
-use mathlib.Core.List.{List, _++_}
+use mathlib.Core.List.{List, [], _++_, append-nil}
 use mathlib.Core.Bool.{Bool, true, false, cond}
 use native.Mathlib.Omega.{arith}
 use lib.Dec.{eqb, ltb}
 use lib.ListN.{length, drop, getD}
-use borrow.Author.Tests.{ne-eqb, ltb-true, ltb-false}
+use lib.Seq.{drop-length}
+use borrow.Author.Tests.{ne-eqb, le-leb, ltb-true, ltb-false}
 use Rattle.text.proofs.Cases.{by-bool, clash}
 use Rattle.tokenizer.specs.Token.{bare}
 use Rattle.tokenizer.specs.Token.{valuesOf as cameValues}
@@ -25,24 +26,24 @@ use Rattle.parser_rules.specs.declared.ruling.Kept.{Kept}
 use Rattle.parser_rules.specs.declared.ruling.Kept.the-variants as kept
 use Rattle.parser_rules.specs.declared.ruling.Ruling.{Ruling}
 use Rattle.parser_rules.specs.declared.ruling.Ruling.the-variants.{Says, End, Unfit}
-use Rattle.parser.specs.Step.{innermostOf, fullOf, onRuling, stepWith, cameOf, stepKept, stepOf}
+use Rattle.parser.specs.Step.{innermostOf, fullOf, onRuling, stepWith, cameOf, stepKept, stepOf, fresh}
 use Rattle.parser.specs.declared.state.State.{State}
 use Rattle.parser.specs.declared.state.Step.{Step}
 use Rattle.parser.proofs.Steps.{over, ended, goes-on}
 use Rattle.tokenizer_words.specs.Words.{wordsOf, stateIn}
-use Rattle.parser_words.specs.ParserWords.{parserWords, parserIn}
+use Rattle.parser_words.specs.ParserWords.{parserWords, parserIn, freshParserIn}
 use Rattle.parser_words.specs.Parsing.{isStop}
 use Rattle.step_words.specs.Fronts.{committed}
 use Rattle.step_words.specs.Outcomes.{outcomeBy}
 use Rattle.step_words.specs.Stepping.{refusedIn, keptNumber, cameIn, judgedIn, outcomeFor, leftIn, stopsAt, Gone, stays, goneBy, stepIn, nextOf}
-use Rattle.step_words.specs.Claims.{Whole, NextIs}
+use Rattle.step_words.specs.Claims.{Whole, Reading, FreshReads, NextSteps}
 use Rattle.step_words.specs.declared.outcome.Outcome.{Outcome}
 use Rattle.step_words.specs.declared.step.Layer.the-variants.{Tokenizer as Tokens, Parser as Parses}
 use Rattle.step_words.proofs.Fronts.{step-committed, end-number}
 use Rattle.step_words.proofs.Rulings.{GoesOn, Fair, ruling-goes-on}
 use Rattle.step_words.proofs.Going.{stop-is, answer-is, words-are}
 use Rattle.step_words.proofs.Branches.{refused, goes, stopped, went-on}
-use Rattle.step_words.proofs.Whole.{stood-state, stood-tokenizer, stood-rest, stood-words, stood-length}
+use Rattle.step_words.proofs.Whole.{fresh-whole, step-whole, stood-state, stood-tokenizer, stood-rest, stood-words, stood-length}
 
 -- the tokenizer's, by the number that came
 module _ (m : Advanced) (w : List ℕ) where
@@ -150,9 +151,10 @@ module _ (d : List ℕ) (s : State) where
         (λ r. let q = goes-on d s l f r in subst (Stopped s) (sym q) (kept-stops (rw q at e)))
 
 -- `next` is the parser's step
-pub next-is : NextIs
+next-of : (d : List ℕ) (s : State) (r : List ℕ) → Whole d s
+    → nextOf d (parserWords s ++ r) ≡ record { said = saidBy (valuesOf (stepOf d s .answer)); words = parserWords (stepOf d s .state) ++ r }
 unfolding nextOf valuesOf
-next-is d s r h =
+next-of d s r h =
     by-bool (ltb 16777216 (length d))
     (λ e. rw (e, over d s (ltb-true 16777216 (length d) e)))
     (λ e.
@@ -161,3 +163,23 @@ next-is d s r h =
     rw e (by-bool (isStop (stepOf d s .answer))
     (λ k. rw k at p ∙ (λ j. record { said = sym (step-stops d s l (h .fits) k .0) j; words = parserWords (sym (step-stops d s l (h .fits) k .1) j) ++ r }))
     (λ k. rw k at p)))
+
+-- the words of a state are those of a reading
+reads : (d : List ℕ) (s : State) (w : List ℕ) → w ≡ parserWords s → Whole d s → (parserIn w ≡ s) × Reading d w
+reads d s w e h =
+    let b = stood-state s (h .slots) (h .sections) [] w (e ∙ sym (append-nil (parserWords s))) in
+    (b, record { words = rw b e; whole = rw b h })
+
+pub fresh-reads : FreshReads
+unfolding freshParserIn
+fresh-reads d w h =
+    let e : freshParserIn w ≡ parserWords fresh = rw (le-leb 213 (length w) (omega (arith, h)), ← h, drop-length, append-nil) in
+    reads d fresh (freshParserIn w) e (fresh-whole d)
+
+pub next-steps : NextSteps
+next-steps d w h =
+    let s = parserIn w in
+    let e : nextOf d w ≡ record { said = saidBy (valuesOf (stepOf d s .answer)); words = parserWords (stepOf d s .state) } =
+    ap (nextOf d) (h .words) ∙ rw (append-nil (parserWords s), append-nil (parserWords (stepOf d s .state))) at (next-of d s [] (h .whole)) in
+    let r = reads d (stepOf d s .state) (nextOf d w .words) (ap (λ (g : Gone). g .words) e) (step-whole d s (h .whole)) in
+    record { said = ap (λ (g : Gone). g .said) e; state = r .0; reading = r .1 }

@@ -31,6 +31,7 @@ use Rattle.parser_words.proofs.Sorts.{sort-words-length, middle-11}
 use Rattle.parser_words.proofs.Back.{parser-back}
 use Rattle.tokenizer_words.proofs.Slotted.{step-slots}
 use Rattle.step_words.specs.Claims.{Whole, Wholes}
+use Rattle.step_words.specs.Claims.{Whole}
 
 sections-after : (c : Change) (l : List Section) (n : ℕ) → length (sectionsAfter c l n) ≡ length l
 unfolding sectionsAfter
@@ -65,9 +66,9 @@ module _ (d : List ℕ) (s : State) (h : Whole d s) where
       (λ f. on-cond W (s .refused) (λ r. h) (λ r. kept-whole (ltb-false 16777216 (length d) e) (s .kept)))
       (λ f. h))
 
-pub wholes : Wholes
+pub fresh-whole : (d : List ℕ) → Whole d fresh
 unfolding fresh freshTokenizer fit fitOpen
-wholes = record { begins = λ d. record { slots = refl; sections = refl; fits = rw (le-leb 0 (length d) (omega arith)) }; steps = step-whole }
+fresh-whole d = record { slots = refl; sections = refl; fits = rw (le-leb 0 (length d) (omega arith)) }
 
 pub words-213 : (s : State) → length (s .tokenizer .indents) ≡ 64 → length (s .sections) ≡ 65 → length (parserWords s) ≡ 213
 unfolding parserWords

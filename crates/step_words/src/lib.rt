@@ -2,9 +2,11 @@
 // C and Rust, and the parser's next answer for the walks inside the library.
 mod front;
 mod outcome;
+mod parse_batch;
 mod rows;
 mod step;
+mod token_batch;
 
+pub use parse_batch::parse;
 pub use rows::next;
-pub use rows::parse;
-pub use rows::tokenize;
+pub use token_batch::tokenize;

@@ -14,8 +14,8 @@ use Rattle.parser_words.specs.ParserWords.{parserIn, parserStoredIn, parserRead
 use Rattle.parser_words.specs.Parsing.{parseBatchOf}
 use Rattle.step_words.proofs.Batching.{unread, starts-unfit, none-starts, parses-done}
 use borrow.Author.Needs.{needs}
-use Rattle.step_words.proofs.rows.parse.Statement.{statement}
-use Rattle.step_words.proofs.rows.parse.Tie as tie
+use Rattle.step_words.proofs.parse_batch.parse.Statement.{statement}
+use Rattle.step_words.proofs.parse_batch.parse.Tie as tie
 
 abbrev begin : tie.After-put-parser → tie.Start
 begin c = c .before .before .before .before .before .before .before

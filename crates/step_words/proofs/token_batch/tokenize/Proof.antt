@@ -8,8 +8,8 @@ use Rattle.tokenizer_words.specs.Rows.{batchOf}
 use Rattle.tokenizer_words.proofs.Batches.{over, unfit, promised}
 use Rattle.step_words.proofs.Batching.{tokens-done}
 use borrow.Author.Needs.{needs}
-use Rattle.step_words.proofs.rows.tokenize.Statement.{statement}
-use Rattle.step_words.proofs.rows.tokenize.Tie as tie
+use Rattle.step_words.proofs.token_batch.tokenize.Statement.{statement}
+use Rattle.step_words.proofs.token_batch.tokenize.Tie as tie
 
 returns : tie.Need-returns
 unfolding batchOf

@@ -8,8 +8,8 @@ use Rattle.parser_words.specs.ParserWords.{parserStoredIn}
 use Rattle.parser_words.proofs.Tests.{has-213}
 use Rattle.step_words.proofs.Batching.{loaded-213}
 use borrow.Author.Needs.{needs}
-use Rattle.step_words.proofs.rows.put_parser.Statement.{statement}
-use Rattle.step_words.proofs.rows.put_parser.Tie as tie
+use Rattle.step_words.proofs.parse_batch.put_parser.Statement.{statement}
+use Rattle.step_words.proofs.parse_batch.put_parser.Tie as tie
 
 is-parser-requires : tie.Need-is-parser-requires
 is-parser-requires c κs = search needs

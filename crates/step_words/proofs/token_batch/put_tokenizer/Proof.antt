@@ -7,8 +7,8 @@ use lib.ListN.{length}
 use Rattle.tokenizer_words.specs.Words.{storedIn}
 use Rattle.tokenizer_words.proofs.Batches.{has-137, loaded-137}
 use borrow.Author.Needs.{needs}
-use Rattle.step_words.proofs.rows.put_tokenizer.Statement.{statement}
-use Rattle.step_words.proofs.rows.put_tokenizer.Tie as tie
+use Rattle.step_words.proofs.token_batch.put_tokenizer.Statement.{statement}
+use Rattle.step_words.proofs.token_batch.put_tokenizer.Tie as tie
 
 is-readable-requires : tie.Need-is-readable-requires
 is-readable-requires c κs = search needs

@@ -7,8 +7,8 @@ use Rattle.step_words.specs.declared.step.Layer.the-variants.{Parser}
 use Rattle.step_words.proofs.Single.{not-unfit}
 use Rattle.step_words.proofs.Taking.{last-one}
 use borrow.Author.Needs.{needs}
-use Rattle.step_words.proofs.rows.starts_unfit.Statement.{statement}
-use Rattle.step_words.proofs.rows.starts_unfit.Tie as tie
+use Rattle.step_words.proofs.parse_batch.starts_unfit.Statement.{statement}
+use Rattle.step_words.proofs.parse_batch.starts_unfit.Tie as tie
 
 returns : tie.Need-returns
 returns c = rw (le-ltb _ _ (c .if1 .taken))
