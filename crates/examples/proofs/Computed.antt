@@ -3,9 +3,9 @@ use Rattle.tokenizer.proofs.Examples as tokenizer
 use Rattle.parser.proofs.Examples as parser
 use Rattle.unescape_pieces.proofs.Examples as pieces
 use Rattle.listing_text.proofs.Examples as rows
-use Rattle.examples.specs.Rows.{Rows}
+use Rattle.examples.specs.Examples.{Examples}
 
-pub computed : Rows
+pub computed : Examples
 computed = record {
   no-tokens = tokenizer.empty;
   no-answers = parser.empty;

@@ -5,6 +5,7 @@ use mathlib.Core.List.{List, [], _∷_, _++_}
 use mathlib.Core.Bool.{true}
 use native.Mathlib.Omega.{arith}
 use lib.ListN.{length}
+use Rattle.text.specs.Bytes.{shiftedBy}
 use Rattle.text.specs.Ascii.{ascii}
 use Rattle.tokenizer_scans.specs.Scans.{breaks}
 use Rattle.tokenizer.specs.Lists.{tokens}
@@ -16,7 +17,7 @@ use Rattle.parser.specs.Lists.{parse}
 use Rattle.parser_rules.specs.declared.ruling.Answer.{Answer as Said}
 use Rattle.parser_rules.specs.declared.ruling.Answer.the-variants.{Token as said, Refused as refuses}
 use Rattle.parser.proofs.Examples.{rules as parseRules}
-use Rattle.joining_claims.specs.Raising.{raisePart, raiseToken, raise, raised}
+use Rattle.joining_claims.specs.Raising.{raiseToken, raise, raised}
 use Rattle.joining_claims.specs.Tokens.{Closed, topLevel}
 
 -- the list for P then S is l; the one for P, then the one for S raised, is m; and these are not the same
@@ -26,7 +27,7 @@ Apart p s l m = (tokens (p ++ s) ≡ l) × (tokens p ++ raised (breaks p) (lengt
 -- P does not end in a break: `a` then `a` is one key
 pub no-break : (topLevel (ascii "a") ≡ true)
     × Apart (ascii "a") (ascii "a") (Token (MapKey 1 (part 0 2)) ∷ []) (Token (MapKey 1 (part 0 1)) ∷ Token (MapKey 1 (part 1 2)) ∷ [])
-unfolding topLevel rules raise raiseToken raisePart
+unfolding topLevel rules raise raiseToken
 no-break = (refl, (refl, refl, λ e. let z : _≡_ {A = ℕ} 0 1 = cc in omega arith))
 
 -- ` a` LF, the P of the next three
@@ -38,7 +39,7 @@ pub comment : Closed section
     × Apart section (ascii ";")
     (Token (Indent 1) ∷ Token (MapKey 1 (part 1 2)) ∷ Token (Newline 1) ∷ Token (Comment 2 (part 4 4)) ∷ Token (Outdent 2) ∷ [])
     (Token (Indent 1) ∷ Token (MapKey 1 (part 1 2)) ∷ Token (Newline 1) ∷ Token (Outdent 2) ∷ Token (Comment 2 (part 4 4)) ∷ [])
-unfolding rules raise raiseToken raisePart
+unfolding rules raise raiseToken
 comment = (refl, (refl, refl, λ e. let z : _≡_ {A = ℕ} 0 1 = cc in omega arith))
 
 -- S begins with a blank: ` a` goes on in the open section
@@ -53,7 +54,7 @@ pub blank : Closed section
     ∷ Token (MapKey 2 (part 4 5))
     ∷ Token (Outdent 2)
     ∷ [])
-unfolding rules raise raiseToken raisePart
+unfolding rules raise raiseToken
 blank = (refl, (refl, refl, λ e. let z : _≡_ {A = ℕ} 0 1 = cc in omega arith))
 
 -- S begins with LF: an empty line closes no section
@@ -61,12 +62,12 @@ pub line-feed : Closed section
     × Apart section (ascii "\n")
     (Token (Indent 1) ∷ Token (MapKey 1 (part 1 2)) ∷ Token (Newline 1) ∷ Token (Newline 2) ∷ Token (Outdent 3) ∷ [])
     (Token (Indent 1) ∷ Token (MapKey 1 (part 1 2)) ∷ Token (Newline 1) ∷ Token (Outdent 2) ∷ Token (Newline 2) ∷ [])
-unfolding rules raise raiseToken raisePart
+unfolding rules raise raiseToken
 line-feed = (refl, (refl, refl, λ e. let z : _≡_ {A = ℕ} 0 1 = cc in omega arith))
 
 -- S begins with LF: CR then LF is one break
 pub cr-lf : Closed (ascii "\r") × Apart (ascii "\r") (ascii "\n") (Token (Newline 1) ∷ []) (Token (Newline 1) ∷ Token (Newline 2) ∷ [])
-unfolding rules raise raiseToken raisePart
+unfolding rules raise raiseToken
 cr-lf = (refl, (refl, refl, λ e. let z : _≡_ {A = ℕ} 0 1 = cc in omega arith))
 
 -- For the parser S's list has to begin with a key or an item: `a` LF then the byte FF. P's own list ends with a NoValue, and

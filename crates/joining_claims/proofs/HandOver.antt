@@ -9,7 +9,7 @@ use native.Mathlib.Nat.{add-zero}
 use native.Mathlib.Omega.{arith}
 use lib.ListN.{length, drop, getD, length-take, length-drop}
 use lib.Seq.{drop-append-seam}
-use Rattle.text.specs.Bytes.{countWhile}
+use Rattle.text.specs.Bytes.{countWhile, shiftedBy}
 use Rattle.text.specs.Trimming.{dropped}
 use Rattle.text.specs.declared.bytes.Part.{Part}
 use Rattle.text.proofs.Cases.{on-cond}
@@ -22,7 +22,6 @@ use Rattle.tokenizer.specs.declared.state.Answer.the-variants.{Token}
 use Rattle.tokenizer.specs.declared.state.State.{State}
 use Rattle.tokenizer_claims.proofs.Texts.{Indentation}
 use Rattle.tokenizer_claims.proofs.Sound.{restOf, indentAt, Sound}
-use Rattle.joining_claims.specs.Raising.{raisePart}
 use Rattle.joining_claims.proofs.Values.{Top}
 use Rattle.joining_claims.proofs.Sections.{Pairs}
 use Rattle.joining_claims.proofs.Course.{Wide, Course}
@@ -67,7 +66,7 @@ inner-wide d is (suc n) h w f =
 
 -- y after an Outdent
 abbrev pub afterClosing : List ℕ → State → State
-afterClosing p y = afterPlan y (raisePart (length p) noPart) (planOutdent (cleared (y .marks)) 0)
+afterClosing p y = afterPlan y (shiftedBy (length p) noPart) (planOutdent (cleared (y .marks)) 0)
 
 module _ (p : List ℕ) (s : ℕ) (t : List ℕ) where
   pub record Waits (x y : State) : Type 0 where
@@ -77,7 +76,7 @@ module _ (p : List ℕ) (s : ℕ) (t : List ℕ) where
     pub depth : y .depth ≡ x .depth
     pub indent : y .marks .indent ≡ true
     pub value : y .marks .value ≡ false
-    pub empty : indentAt (p ++ s ∷ t) y ≡ raisePart (length p) noPart
+    pub empty : indentAt (p ++ s ∷ t) y ≡ shiftedBy (length p) noPart
     pub size : sizeOf (y .held) (restOf (p ++ s ∷ t) y) ≡ 0
 
   module _ (o : Top s) (x y : State) (w : Waits x y) where
@@ -85,12 +84,12 @@ module _ (p : List ℕ) (s : ℕ) (t : List ℕ) where
     rest-top = rw (w .place) (drop-append-seam p (s ∷ t))
 
     plan-top : (depth : ℕ) (inner : List ℕ) → y .depth ≡ depth → bytesOf (p ++ s ∷ t) (innerOf (y .indents) (y .depth)) ≡ inner
-        → planWith (p ++ s ∷ t) y (raisePart (length p) noPart) 0 ≡ planAt (y .marks) depth inner [] (s ∷ t) 0
+        → planWith (p ++ s ∷ t) y (shiftedBy (length p) noPart) 0 ≡ planAt (y .marks) depth inner [] (s ∷ t) 0
     unfolding planWith
     plan-top depth inner d i = rw (i, d, bytes-raised p (s ∷ t) noPart, rest-top)
 
     -- with no section open, S's first step
-    plan-begins : y .depth ≡ 0 → planWith (p ++ s ∷ t) y (raisePart (length p) noPart) 0 ≡ planWith (s ∷ t) fresh noPart 0
+    plan-begins : y .depth ≡ 0 → planWith (p ++ s ∷ t) y (shiftedBy (length p) noPart) 0 ≡ planWith (s ∷ t) fresh noPart 0
     unfolding planWith fresh
     plan-begins d = plan-top 0 [] d (rw d) ∙ begins s t o (y .marks) (w .indent) (w .value) ∙ sym (begins s t o (fresh .marks) refl refl)
 
@@ -111,7 +110,7 @@ module _ (p : List ℕ) (s : ℕ) (t : List ℕ) where
 
     -- with one open, an Outdent
     plan-closes : Course p x → Sound (p ++ s ∷ t) y → 0 < y .depth
-        → planWith (p ++ s ∷ t) y (raisePart (length p) noPart) 0 ≡ planOutdent (cleared (y .marks)) 0
+        → planWith (p ++ s ∷ t) y (shiftedBy (length p) noPart) 0 ≡ planOutdent (cleared (y .marks)) 0
     plan-closes c f d =
         let i = inner-wide (p ++ s ∷ t) (y .indents) (y .depth) d (rw (w .indents, w .depth) (c .wide)) (f .indents) in
         plan-top (y .depth) _ refl refl ∙ closes s t o (y .marks) (w .indent) (y .depth) _ i

@@ -9,6 +9,7 @@ use native.Mathlib.Nat.{add-assoc}
 use native.Mathlib.Omega.{arith}
 use lib.ListN.{length, getD}
 use lib.Seq.{drop-append-add}
+use Rattle.text.specs.Bytes.{shiftedBy}
 use Rattle.text.specs.declared.bytes.Part.{Part}
 use Rattle.tokenizer_scans.specs.Scans.{blanks, breaks}
 use Rattle.tokenizer.specs.Step.{bytesOf, noPart, indentOf, sizeOf, innerOf, heldAfter, depthAfter, answerOf, planWith, afterPlan, stepWith, stepRule, stepOf}
@@ -39,17 +40,17 @@ use Rattle.tokenizer.specs.declared.state.Step.{Step}
 use Rattle.tokenizer.proofs.Bounds.{plan-bounded}
 use Rattle.tokenizer_claims.proofs.Sound.{restOf, indentAt, Sound, step-sound}
 use Rattle.tokenizer_claims.proofs.Claimed.{sound-kept}
-use Rattle.joining_claims.specs.Raising.{raisePart, raiseToken, raise, raised}
+use Rattle.joining_claims.specs.Raising.{raiseToken, raise, raised}
 use Rattle.joining_claims.proofs.Sections.{Pairs, Opening, room-after, pairs-after}
 
 -- l lines and n bytes higher
 
 abbrev pub RaisedPart : ℕ → Part → Part → Type 0
-RaisedPart n i j = j ≡ raisePart n i
+RaisedPart n i j = j ≡ shiftedBy n i
 
 abbrev raiseHeld : ℕ → Held → Held
 raiseHeld n Nothing = Nothing
-raiseHeld n (At i) = At (raisePart n i)
+raiseHeld n (At i) = At (shiftedBy n i)
 
 module _ (l n : ℕ) where
   -- y above x, in all that the next state takes over beside the plan
@@ -72,8 +73,8 @@ module _ (l n : ℕ) where
     pub answer : b .answer ≡ raise l n (a .answer)
     pub state : Higher (a .state) (b .state)
 
-  answer-raised : (a : Says) (m k : ℕ) (i : Part) → answerOf a (l + m) (n + k) (raisePart n i) ≡ raise l n (answerOf a m k i)
-  unfolding raise raiseToken raisePart
+  answer-raised : (a : Says) (m k : ℕ) (i : Part) → answerOf a (l + m) (n + k) (shiftedBy n i) ≡ raise l n (answerOf a m k i)
+  unfolding raise raiseToken
   answer-raised End m k i = refl
   answer-raised Newline m k i = refl
   answer-raised (Comment p) m k i = rw (add-assoc n k (p .start), add-assoc n k (p .end))
@@ -86,7 +87,7 @@ module _ (l n : ℕ) where
   answer-raised (MultilineValue p) m k i = rw (add-assoc n k (p .start), add-assoc n k (p .end))
   answer-raised (Refused r) m k i = refl
 
-  held-raised : (c : Change) (i : Part) → heldAfter c (raisePart n i) ≡ raiseHeld n (heldAfter c i)
+  held-raised : (c : Change) (i : Part) → heldAfter c (shiftedBy n i) ≡ raiseHeld n (heldAfter c i)
   held-raised Keep i = refl
   held-raised Open i = refl
   held-raised Close i = refl
@@ -100,7 +101,7 @@ module _ (l n : ℕ) where
 
   -- the same plan, in states one above the other
   plan-raised : (x y : State) → Above x y → (i : Part) (c : Plan) → depthAfter (c .change) (x .depth) ≤ 64
-      → Higher (afterPlan x i c) (afterPlan y (raisePart n i) c)
+      → Higher (afterPlan x i c) (afterPlan y (shiftedBy n i) c)
   unfolding afterPlan
   plan-raised x y a i c h = record {
     above = record {
@@ -108,10 +109,10 @@ module _ (l n : ℕ) where
       line = rw (a .line) (add-assoc l (x .line) (c .lines));
       depth = rw (a .depth);
       low-room = room-after (c .change) i (x .indents) (x .depth) ∙ a .low-room;
-      room = room-after (c .change) (raisePart n i) (y .indents) (y .depth) ∙ a .room;
+      room = room-after (c .change) (shiftedBy n i) (y .indents) (y .depth) ∙ a .room;
       indents =
           rw (a .depth)
-          (pairs-after (RaisedPart n) i (raisePart n i) (x .indents) (y .indents) (x .depth) (c .change) (rw (a .low-room) h) (rw (a .room) h)
+          (pairs-after (RaisedPart n) i (shiftedBy n i) (x .indents) (y .indents) (x .depth) (c .change) (rw (a .low-room) h) (rw (a .room) h)
           (always (c .change) refl) (a .indents));
     };
     marks = refl;
@@ -121,8 +122,7 @@ module _ (l n : ℕ) where
 -- The step
 
 module _ (p s : List ℕ) where
-  pub bytes-raised : (i : Part) → bytesOf (p ++ s) (raisePart (length p) i) ≡ bytesOf s i
-  unfolding raisePart
+  pub bytes-raised : (i : Part) → bytesOf (p ++ s) (shiftedBy (length p) i) ≡ bytesOf s i
   bytes-raised i =
       let e : length p + i .end - (length p + i .start) ≡ i .end - i .start = omega arith in
       rw (e, drop-append-add p s (i .start))
@@ -131,8 +131,7 @@ module _ (p s : List ℕ) where
   inner-raised is js zero o = refl
   inner-raised is js (suc k) o = rw (o k (omega arith)) (bytes-raised (getD is k noPart))
 
-  indent-raised : (h : Held) (k : ℕ) (r : List ℕ) → indentOf (raiseHeld (length p) h) (length p + k) r ≡ raisePart (length p) (indentOf h k r)
-  unfolding raisePart
+  indent-raised : (h : Held) (k : ℕ) (r : List ℕ) → indentOf (raiseHeld (length p) h) (length p + k) r ≡ shiftedBy (length p) (indentOf h k r)
   indent-raised Nothing k r = rw (add-assoc (length p) k (blanks r))
   indent-raised (At i) k r = refl
 
@@ -142,8 +141,8 @@ module _ (p s : List ℕ) where
 
   module _ (x y : State) where
     -- two steps of the same plan
-    pub with-raised : Above (breaks p) (length p) x y → (i : Part) (k : ℕ) → planWith (p ++ s) y (raisePart (length p) i) k ≡ planWith s x i k
-        → x .depth ≤ 64 → HigherStep (breaks p) (length p) (stepWith s x i k) (stepWith (p ++ s) y (raisePart (length p) i) k)
+    pub with-raised : Above (breaks p) (length p) x y → (i : Part) (k : ℕ) → planWith (p ++ s) y (shiftedBy (length p) i) k ≡ planWith s x i k
+        → x .depth ≤ 64 → HigherStep (breaks p) (length p) (stepWith s x i k) (stepWith (p ++ s) y (shiftedBy (length p) i) k)
     unfolding stepWith planWith
     with-raised a i k e d = record {
       answer = rw (e, a .line, a .place) (answer-raised (breaks p) (length p) (planWith s x i k .says) (x .line) (x .place) i);
@@ -155,7 +154,7 @@ module _ (p s : List ℕ) where
     rule-raised o h =
         let a = h .above in
         let r : restOf (p ++ s) y ≡ restOf s x = rw (a .place) (drop-append-add p s (x .place)) in
-        let i : indentAt (p ++ s) y ≡ raisePart (length p) (indentAt s x) = rw (r, h .held, a .place) (indent-raised (x .held) (x .place) (restOf s x)) in
+        let i : indentAt (p ++ s) y ≡ shiftedBy (length p) (indentAt s x) = rw (r, h .held, a .place) (indent-raised (x .held) (x .place) (restOf s x)) in
         let k : sizeOf (y .held) (restOf (p ++ s) y) ≡ sizeOf (x .held) (restOf s x) = rw (r, h .held) (size-raised (x .held) (restOf s x)) in
         rw (i, k)
         (with-raised a (indentAt s x) (sizeOf (x .held) (restOf s x))

@@ -8,6 +8,7 @@ use native.Mathlib.Nat.{add-zero}
 use native.Mathlib.Omega.{arith}
 use lib.ListN.{length, length-drop, length-append}
 use lib.Seq.{drop-append-seam}
+use Rattle.text.specs.Bytes.{shiftedBy}
 use Rattle.text.specs.declared.bytes.Part.{Part}
 use Rattle.tokenizer_scans.specs.Scans.{breaksAfter, breaks}
 use Rattle.tokenizer_rules.specs.Plan.{planOutdent}
@@ -25,7 +26,7 @@ use Rattle.tokenizer_claims.proofs.Answers.{Vouched, plan-vouches}
 use Rattle.tokenizer_claims.proofs.Readings.{reads-one}
 use Rattle.tokenizer_claims.proofs.Claimed.{sound-kept}
 use Rattle.tokenizer_claims.proofs.Claimed as claimed
-use Rattle.joining_claims.specs.Raising.{raisePart, raised}
+use Rattle.joining_claims.specs.Raising.{raised}
 use Rattle.joining_claims.specs.Tokens.{Closed, TokensJoined}
 use Rattle.joining_claims.proofs.Inline.{Ended, closed-ended, closed-drop, line-lt, blanks-inline}
 use Rattle.joining_claims.proofs.Values.{Top, top}
@@ -66,7 +67,6 @@ module _ (p : List ℕ) (closed : Closed p) (s : ℕ) (t : List ℕ) (o : Top s)
 
   -- P's end is reached
   reached : (x : State) → Course p x → restOf p x ≡ [] → Waits p s t x x
-  unfolding raisePart
   reached x c e =
       let z : length (restOf p x) ≡ 0 = ap length e in
       let n : x .place ≡ length p = omega (arith, length-drop (x .place) p, c .sound .place) in

@@ -5,17 +5,16 @@ use mathlib.Core.List.{List, _++_}
 use native.Mathlib.Omega.{arith}
 use lib.ListN.{length, take, drop, length-append, length-drop}
 use lib.Seq.{take-append-le, drop-append-le, drop-append-add}
+use Rattle.text.specs.Bytes.{shiftedBy}
 use Rattle.text.specs.declared.bytes.Part.{Part}
 use Rattle.tokenizer.specs.Step.{bytesOf}
-use Rattle.joining_claims.specs.Raising.{raisePart}
 
 module _ (p s : List ℕ) where
   pub part-above : (q : Part) → q .start ≤ q .end → q .end ≤ length p → bytesOf (p ++ s) q ≡ bytesOf p q
   part-above q a e =
       rw (drop-append-le (q .start) p s (omega arith), take-append-le (q .end - q .start) (drop (q .start) p) s (rw length-drop (omega arith)))
 
-  pub part-below : (q : Part) → bytesOf (p ++ s) (raisePart (length p) q) ≡ bytesOf s q
-  unfolding raisePart
+  pub part-below : (q : Part) → bytesOf (p ++ s) (shiftedBy (length p) q) ≡ bytesOf s q
   part-below q =
       let e : length p + q .end - (length p + q .start) ≡ q .end - q .start = omega arith in
       rw (drop-append-add p s (q .start), e)

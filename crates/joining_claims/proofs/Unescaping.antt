@@ -32,7 +32,7 @@ use Rattle.tokenizer.specs.declared.state.Answer.{Answer as Came}
 use Rattle.tokenizer.specs.declared.state.Answer.the-variants as came
 use Rattle.tokenizer_claims.specs.Claims.{Text, TokenFits, Fits, All}
 use Rattle.tokenizer_claims.proofs.Claimed.{fit as reading-fit}
-use Rattle.text.specs.Bytes.{countWhile, notBreak}
+use Rattle.text.specs.Bytes.{countWhile, notBreak, shiftedBy}
 use Rattle.text.specs.Scalar.{isScalar, encoding}
 use Rattle.unescape_pieces.specs.Codes.{codeOf, simpleOf}
 use Rattle.unescape_pieces.specs.Meaning.{
@@ -53,14 +53,14 @@ use Rattle.unescape_pieces.specs.Meaning.{
   blockMeaning,
   meaning,
 }
-use Rattle.unescape_pieces.specs.Words.{worded, wordsOf, sound}
-use Rattle.unescape_pieces.specs.declared.words.Reading.{Reading}
-use Rattle.unescape_pieces.specs.declared.words.Reading.the-variants.{AsIs, Entry, Block}
-use Rattle.unescape_pieces.specs.declared.words.Worded.{Worded}
-use Rattle.unescape.specs.Unescape.{Unescaped, delivered, wordsIn, unescapeOf}
+use Rattle.unescape_pieces.specs.Source.{sourceAt, sourceOf, sound}
+use Rattle.unescape_pieces.specs.declared.source.Style.{Style}
+use Rattle.unescape_pieces.specs.declared.source.Style.the-variants.{AsIs, Entry, Block}
+use Rattle.unescape_pieces.specs.declared.source.Source.{Source}
+use Rattle.unescape.specs.Unescape.{Unescaped, delivered, meaningIn, unescapeOf}
 use Rattle.unescape.specs.declared.Answer.{Answer}
 use Rattle.unescape.specs.declared.Answer.the-variants.{Plain, Written, Refused}
-use Rattle.joining_claims.specs.Raising.{raisePart, raiseToken}
+use Rattle.joining_claims.specs.Raising.{raiseToken}
 use Rattle.joining_claims.specs.Alike.{Same, Alike}
 use Rattle.joining_claims.specs.Joined.{EachToken}
 use Rattle.joining_claims.specs.Never13.{Not13, Never13}
@@ -77,8 +77,8 @@ none-text : (d : List ℕ) → Text d noPart
 unfolding utf8 owes
 none-text d = record { within = record { starts = omega arith; ends = omega arith }; valid = refl }
 
-words-fit : (d : List ℕ) (t : Token) → TokenFits d t → Text d (wordsOf t .text) × Text d (wordsOf t .indent)
-unfolding wordsOf
+words-fit : (d : List ℕ) (t : Token) → TokenFits d t → Text d (sourceOf t .text) × Text d (sourceOf t .indent)
+unfolding sourceOf
 words-fit d (Newline m) f = (none-text d, none-text d)
 words-fit d (Comment m q) f = (f, none-text d)
 words-fit d (Indent m) f = (none-text d, none-text d)
@@ -91,13 +91,13 @@ words-fit d (MultilineValue m i q) f = (f .1, f .0)
 words-fit d (NoValue m) f = absurd f
 
 deliver : List ℕ → Token → List ℕ → Unescaped
-deliver d t o = delivered (wordsIn d (wordsOf t)) (wordsOf t .text .start) (lineOf t) o
+deliver d t o = delivered (meaningIn d (sourceOf t)) (sourceOf t .text .start) (lineOf t) o
 
-unescaped : (d : List ℕ) (t : Token) (o : List ℕ) → length d ≤ 16777216 → Text d (wordsOf t .text) × Text d (wordsOf t .indent)
+unescaped : (d : List ℕ) (t : Token) (o : List ℕ) → length d ≤ 16777216 → Text d (sourceOf t .text) × Text d (sourceOf t .indent)
     → unescapeOf d t o ≡ deliver d t o
 unfolding unescapeOf deliver
 unescaped d t o l f =
-    rw (le-ltb 16777216 (length d) l, text-sound d (wordsOf t .text) (f .0), text-sound d (wordsOf t .indent) (f .1))
+    rw (le-ltb 16777216 (length d) l, text-sound d (sourceOf t .text) (f .0), text-sound d (sourceOf t .indent) (f .1))
 
 -- A meaning's part lies within its text; no refusal but an invalid code is 8, and none is 13
 
@@ -143,7 +143,7 @@ entry-proper (b ∷ r) =
     (λ f. quoted-proper (suc (length r)) r plain 1))
     (λ e. (omega arith, omega arith))
 
-meaning-proper : (r : Reading) (s i : List ℕ) → Proper (length s) (meaning r s i)
+meaning-proper : (r : Style) (s i : List ℕ) → Proper (length s) (meaning r s i)
 unfolding meaning blockMeaning
 meaning-proper AsIs s i = (omega arith, omega arith)
 meaning-proper Entry s i = entry-proper s
@@ -162,7 +162,7 @@ module _ (p s : List ℕ) where
   -- at the same place of P then S and of P
   answer-above : (m : Meaning) (k l n : ℕ) (o : List ℕ) → Proper n m → k + n ≤ length p
       → Same 0 0 (p ++ s) (delivered m k l o .answer) p (delivered m k l o .answer)
-  unfolding delivered Same raisePart
+  unfolding delivered Same
   answer-above (part a e) k l n o h f = part-above p s (record { start = k + a; end = k + e }) (omega arith) (omega arith)
   answer-above (bytes w) k l n o h f =
       by-bool (leb (length w) (length o)) (λ e. rw e refl) (λ e. rw e (refl, omega arith, refl))
@@ -172,7 +172,7 @@ module _ (p s : List ℕ) where
   -- at a place of S and, raised, of P then S
   answer-below : (m : Meaning) (k l j n : ℕ) (o : List ℕ) → Proper n m
       → Same j (length p) (p ++ s) (delivered m (length p + k) (j + l) o .answer) s (delivered m k l o .answer)
-  unfolding delivered Same raisePart
+  unfolding delivered Same
   answer-below (part a e) k l j n o h = rw (add-assoc, add-assoc) (part-below p s (record { start = k + a; end = k + e }))
   answer-below (bytes w) k l j n o h =
       by-bool (leb (length w) (length o)) (λ e. rw e refl) (λ e. rw e (refl, refl, refl))
@@ -192,8 +192,8 @@ module _ (p s : List ℕ) where
   unfolding deliver
   there-above t o l f =
       let g = words-fit p t f in
-      unescaped (p ++ s) t o l (text-above (wordsOf t .text) (g .0), text-above (wordsOf t .indent) (g .1))
-      ∙ rw (part-above p s (wordsOf t .text) (g .0 .within .starts) (g .0 .within .ends), part-above p s (wordsOf t .indent) (g .1 .within .starts) (g .1 .within .ends))
+      unescaped (p ++ s) t o l (text-above (sourceOf t .text) (g .0), text-above (sourceOf t .indent) (g .1))
+      ∙ rw (part-above p s (sourceOf t .text) (g .0 .within .starts) (g .0 .within .ends), part-above p s (sourceOf t .indent) (g .1 .within .starts) (g .1 .within .ends))
 
   here-above : (t : Token) (o : List ℕ) → length (p ++ s) ≤ 16777216 → TokenFits p t → unescapeOf p t o ≡ deliver p t o
   here-above t o l f = unescaped p t o (omega (arith, length-append p s)) (words-fit p t f)
@@ -201,10 +201,10 @@ module _ (p s : List ℕ) where
   answers-above : (t : Token) (o : List ℕ) → TokenFits p t → Same 0 0 (p ++ s) (deliver p t o .answer) p (deliver p t o .answer)
   unfolding deliver
   answers-above t o f =
-      let q = wordsOf t .text in
+      let q = sourceOf t .text in
       let g = words-fit p t f .0 .within in
-      answer-above (wordsIn p (wordsOf t)) (q .start) (lineOf t) (length (bytesOf p q)) o
-      (meaning-proper (wordsOf t .reading) (bytesOf p q) (bytesOf p (wordsOf t .indent)))
+      answer-above (meaningIn p (sourceOf t)) (q .start) (lineOf t) (length (bytesOf p q)) o
+      (meaning-proper (sourceOf t .style) (bytesOf p q) (bytesOf p (sourceOf t .indent)))
       (omega (arith, g .starts, g .ends, length-take (q .end - q .start) (drop (q .start) p)))
 
   pub token-above : (t : Token) → length (p ++ s) ≤ 16777216 → TokenFits p t → Alike 0 0 (p ++ s) t p t
@@ -215,28 +215,27 @@ module _ (p s : List ℕ) where
 
   -- Tokens of S
 
-  text-below : (q : Part) → Text s q → Text (p ++ s) (raisePart (length p) q)
-  unfolding raisePart
+  text-below : (q : Part) → Text s q → Text (p ++ s) (shiftedBy (length p) q)
   text-below q t = record {
     within = record { starts = omega (arith, t .within .starts); ends = omega (arith, t .within .ends, length-append p s) };
-    valid = unfold raisePart in (rw (part-below p s q) (t .valid));
+    valid = (rw (part-below p s q) (t .valid));
   }
 
   -- A token t of P then S that is u raised by j lines: u has the text q and the indentation i, t has q raised and k.
-  record Lifted (j : ℕ) (t u : Token) (r : Reading) (q i k : Part) : Type 0 where
+  record Lifted (j : ℕ) (t u : Token) (r : Style) (q i k : Part) : Type 0 where
     line : lineOf t ≡ j + lineOf u
-    lower : wordsOf u ≡ record { reading = r; text = q; indent = i }
-    upper : wordsOf t ≡ record { reading = r; text = raisePart (length p) q; indent = k }
+    lower : sourceOf u ≡ record { style = r; text = q; indent = i }
+    upper : sourceOf t ≡ record { style = r; text = shiftedBy (length p) q; indent = k }
     indents : bytesOf (p ++ s) k ≡ bytesOf s i
     indented : Text (p ++ s) k × Text s i
     texted : Text s q
 
-  module _ (j : ℕ) (t u : Token) (r : Reading) (q i k : Part) (f : Lifted j t u r q i k) (l : length (p ++ s) ≤ 16777216) where
+  module _ (j : ℕ) (t u : Token) (r : Style) (q i k : Part) (f : Lifted j t u r q i k) (l : length (p ++ s) ≤ 16777216) where
     m : Meaning
     m = meaning r (bytesOf s q) (bytesOf s i)
 
     there-below : (o : List ℕ) → unescapeOf (p ++ s) t o ≡ delivered m (length p + q .start) (j + lineOf u) o
-    unfolding deliver raisePart m
+    unfolding deliver m
     there-below o =
         unescaped (p ++ s) t o l (rw (f .upper) (text-below q (f .texted), f .indented .0))
         ∙ rw (f .upper, f .line, part-below p s q, f .indents)
@@ -253,7 +252,7 @@ module _ (p s : List ℕ) where
     }
 
   -- a text and no indentation
-  texted-alike : (j : ℕ) (t u : Token) (r : Reading) (q : Part) → lineOf t ≡ j + lineOf u → wordsOf u ≡ worded r q → wordsOf t ≡ worded r (raisePart (length p) q)
+  texted-alike : (j : ℕ) (t u : Token) (r : Style) (q : Part) → lineOf t ≡ j + lineOf u → sourceOf u ≡ sourceAt r q → sourceOf t ≡ sourceAt r (shiftedBy (length p) q)
       → Text s q → length (p ++ s) ≤ 16777216 → Alike j (length p) (p ++ s) t s u
   texted-alike j t u r q n x y f l =
       lifted-alike j t u r q noPart noPart
@@ -261,12 +260,12 @@ module _ (p s : List ℕ) where
       l
 
   -- a token without a text keeps its empty part at 0
-  none-delivered : (d : List ℕ) (t : Token) (o : List ℕ) → wordsOf t ≡ worded AsIs noPart → length d ≤ 16777216
+  none-delivered : (d : List ℕ) (t : Token) (o : List ℕ) → sourceOf t ≡ sourceAt AsIs noPart → length d ≤ 16777216
       → unescapeOf d t o ≡ record { answer = Plain noPart; buffer = o }
   unfolding deliver meaning delivered
   none-delivered d t o x l = unescaped d t o l (rw x (none-text d, none-text d)) ∙ rw x
 
-  bare-alike : (j : ℕ) (t u : Token) → wordsOf t ≡ worded AsIs noPart → wordsOf u ≡ worded AsIs noPart → length (p ++ s) ≤ 16777216
+  bare-alike : (j : ℕ) (t u : Token) → sourceOf t ≡ sourceAt AsIs noPart → sourceOf u ≡ sourceAt AsIs noPart → length (p ++ s) ≤ 16777216
       → Alike j (length p) (p ++ s) t s u
   unfolding Same
   bare-alike j t u x y l =
@@ -277,7 +276,7 @@ module _ (p s : List ℕ) where
       }
 
   pub token-below : (j : ℕ) (t : Token) → length (p ++ s) ≤ 16777216 → TokenFits s t → Alike j (length p) (p ++ s) (raiseToken j (length p) t) s t
-  unfolding raiseToken wordsOf lineOf
+  unfolding raiseToken sourceOf lineOf
   token-below j (Newline m) l f = bare-alike j _ _ refl refl l
   token-below j (Comment m q) l f = texted-alike j _ _ AsIs q refl refl refl f l
   token-below j (Indent m) l f = bare-alike j _ _ refl refl l
@@ -287,7 +286,7 @@ module _ (p s : List ℕ) where
   token-below j (Value m q) l f = texted-alike j _ _ Entry q refl refl refl f l
   token-below j (MultilineHint m q) l f = texted-alike j _ _ AsIs q refl refl refl f l
   token-below j (MultilineValue m i q) l f =
-      lifted-alike j _ _ Block q i (raisePart (length p) i)
+      lifted-alike j _ _ Block q i (shiftedBy (length p) i)
       (record { line = refl; lower = refl; upper = refl; indents = part-below p s i; indented = (text-below i (f .0), f .0); texted = f .1 })
       l
   token-below j (NoValue m) l f = absurd f
@@ -309,10 +308,10 @@ delivered-not13 (refused r) n k l o h = h .1
 token-not13 : (d : List ℕ) (t : Token) → length d ≤ 16777216 → TokenFits d t → (o : List ℕ) → Not13 (unescapeOf d t o .answer)
 unfolding deliver
 token-not13 d t l f o =
-    let s = bytesOf d (wordsOf t .text) in
+    let s = bytesOf d (sourceOf t .text) in
     rw (unescaped d t o l (words-fit d t f))
-    (delivered-not13 (wordsIn d (wordsOf t)) (length s) (wordsOf t .text .start) (lineOf t) o
-    (meaning-proper (wordsOf t .reading) s (bytesOf d (wordsOf t .indent))))
+    (delivered-not13 (meaningIn d (sourceOf t)) (length s) (sourceOf t .text .start) (lineOf t) o
+    (meaning-proper (sourceOf t .style) s (bytesOf d (sourceOf t .indent))))
 
 pub never13 : Never13
 never13 d l = each-token d _ (λ t f. token-not13 d t l f) (tokens d) (reading-fit d l)

@@ -13,7 +13,7 @@ use borrow.Author.Tests.{eqb-true, not-true, not-false}
 use Rattle.text.specs.Bytes.{isBlank, isBreak, breakSize, countWhile, startsWith}
 use Rattle.text.specs.Trimming.{dropped}
 use Rattle.text.proofs.Cases.{by-bool}
-use Rattle.tokenizer_scans.specs.Scans.{piece, isVoid, belongsTo, extent, breaksAfter, breaks, endsInBreak, lineCount, linesOf}
+use Rattle.tokenizer_scans.specs.Scans.{piece, isVoid, belongsTo, multilineEnd, breaksAfter, breaks, endsInBreak, lineCount, linesOf}
 use Rattle.tokenizer_scans.proofs.Pieces.{extent-le}
 use Rattle.joining_claims.specs.Tokens.{Closed, topLevel}
 use Rattle.joining_claims.proofs.Inline.{Ended, to-break, or-left, or-right, by-break}
@@ -58,13 +58,13 @@ module _ (s : ℕ) (t : List ℕ) (o : Top s) where
         (λ e. rw (e, o .no-blank, o .no-break) (eqb·zero-suc (length (piece t))))
 
     extent-same : (before : Bool) (r : List ℕ) → endsInBreak before r ≡ true
-        → extent (i ∷ indent) (not before) (r ++ s ∷ t) ≡ extent (i ∷ indent) (not before) r
-    unfolding extent endsInBreak
+        → multilineEnd (i ∷ indent) (not before) (r ++ s ∷ t) ≡ multilineEnd (i ∷ indent) (not before) r
+    unfolding multilineEnd endsInBreak
     extent-same before [] h = rw (h, outside)
     extent-same before (b ∷ r) h = rw (piece-same (b ∷ r) h, extent-same (isBreak b) r h)
 
     taken-same : (r : List ℕ) → Closed r
-        → take (extent (i ∷ indent) false (r ++ s ∷ t)) (r ++ s ∷ t) ≡ take (extent (i ∷ indent) false r) r
+        → take (multilineEnd (i ∷ indent) false (r ++ s ∷ t)) (r ++ s ∷ t) ≡ take (multilineEnd (i ∷ indent) false r) r
     taken-same r h = rw (extent-same true r h) (take-append-le _ r (s ∷ t) (extent-le (i ∷ indent) false r))
 
     pub lines-same : (r : List ℕ) → Closed r → linesOf (i ∷ indent) (r ++ s ∷ t) ≡ linesOf (i ∷ indent) r
@@ -87,8 +87,8 @@ newline-breaks b r = by-break (λ b. 1 + breaks (drop (breakSize (b ∷ r)) (b �
 
 module _ (indent : List ℕ) where
   -- a value's pieces are whole lines where the text ends in a break
-  whole-lines : (before : Bool) (r : List ℕ) → endsInBreak before r ≡ true → endsInBreak before (take (extent indent (not before) r) r) ≡ true
-  unfolding extent endsInBreak
+  whole-lines : (before : Bool) (r : List ℕ) → endsInBreak before r ≡ true → endsInBreak before (take (multilineEnd indent (not before) r) r) ≡ true
+  unfolding multilineEnd endsInBreak
   whole-lines before [] h = h
   whole-lines before (b ∷ r) h =
       by-bool (not before || belongsTo indent (piece (b ∷ r)))
@@ -102,12 +102,12 @@ module _ (indent : List ℕ) where
 
   -- so it does not end between CR and LF
   breaks-kept : (inside cr : Bool) (r : List ℕ)
-      → breaksAfter cr (take (extent indent inside r) r) + breaks (drop (extent indent inside r) r) ≡ breaksAfter cr r
-  unfolding extent breaksAfter
+      → breaksAfter cr (take (multilineEnd indent inside r) r) + breaks (drop (multilineEnd indent inside r) r) ≡ breaksAfter cr r
+  unfolding multilineEnd breaksAfter
   breaks-kept inside cr [] = refl
   breaks-kept inside cr (b ∷ r) =
       by-bool (inside || belongsTo indent (piece (b ∷ r)))
-      (λ e. rw e (taken (extent indent (not (isBreak b)) r) (breaks-kept (not (isBreak b)) true r) (breaks-kept (not (isBreak b)) false r)))
+      (λ e. rw e (taken (multilineEnd indent (not (isBreak b)) r) (breaks-kept (not (isBreak b)) true r) (breaks-kept (not (isBreak b)) false r)))
       (λ e.
       by-bool (eqb b 10)
       (λ t. absurd (true≢false (sym (takes-lf r) ∙ or-right inside _ (rw (eqb-true b 10 t) at e))))

@@ -6,6 +6,7 @@ use mathlib.Core.Path.{_≡_}
 use mathlib.Core.List.{List}
 use mathlib.Core.Bool.{cond}
 use lib.Dec.{eqb}
+use Rattle.text.specs.Bytes.{shiftedBy}
 use Rattle.text.specs.Numbers.{invalidEscape}
 use Rattle.text.specs.declared.bytes.Part.{Part}
 use Rattle.tokenizer.specs.Step.{bytesOf}
@@ -13,11 +14,10 @@ use Rattle.tokenizer.specs.declared.token.Token.{Token}
 use Rattle.unescape.specs.Unescape.{unescapeOf}
 use Rattle.unescape.specs.declared.Answer.{Answer}
 use Rattle.unescape.specs.declared.Answer.the-variants.{Plain, Written, Refused}
-use Rattle.joining_claims.specs.Raising.{raisePart}
 
 -- the part that a refusal shows: only 8 has one
 abbrev pub raiseShown : ℕ → ℕ → Part → Part
-raiseShown n r q = cond (eqb r invalidEscape) (raisePart n q) q
+raiseShown n r q = cond (eqb r invalidEscape) (shiftedBy n q) q
 
 -- an answer about the document d and one about e, whose lines and places are l and n lower
 unfoldable pub Same : ℕ → ℕ → List ℕ → Answer → List ℕ → Answer → Type 0

@@ -2,6 +2,7 @@
 -- end of a text, empty ones too, or of an indentation; kinds that carry no text keep their zeros.
 use Prim.Native.Nat.{ℕ, _+_}
 use mathlib.Core.List.{List, map}
+use Rattle.text.specs.Bytes.{shiftedBy}
 use Rattle.text.specs.declared.bytes.Part.{Part}
 use Rattle.tokenizer.specs.declared.token.Token.{Token}
 use Rattle.tokenizer.specs.declared.token.Token.the-variants.{
@@ -19,20 +20,17 @@ use Rattle.tokenizer.specs.declared.token.Token.the-variants.{
 use Rattle.tokenizer.specs.declared.state.Answer.{Answer}
 use Rattle.tokenizer.specs.declared.state.Answer.the-variants as answer
 
-unfoldable pub raisePart : ℕ → Part → Part
-raisePart n p = record { start = n + p .start; end = n + p .end }
-
 -- by l lines and n bytes
 unfoldable pub raiseToken : ℕ → ℕ → Token → Token
 raiseToken l n (Newline m) = Newline (l + m)
-raiseToken l n (Comment m p) = Comment (l + m) (raisePart n p)
+raiseToken l n (Comment m p) = Comment (l + m) (shiftedBy n p)
 raiseToken l n (Indent m) = Indent (l + m)
 raiseToken l n (Outdent m) = Outdent (l + m)
 raiseToken l n (ListItem m) = ListItem (l + m)
-raiseToken l n (MapKey m p) = MapKey (l + m) (raisePart n p)
-raiseToken l n (Value m p) = Value (l + m) (raisePart n p)
-raiseToken l n (MultilineHint m p) = MultilineHint (l + m) (raisePart n p)
-raiseToken l n (MultilineValue m i p) = MultilineValue (l + m) (raisePart n i) (raisePart n p)
+raiseToken l n (MapKey m p) = MapKey (l + m) (shiftedBy n p)
+raiseToken l n (Value m p) = Value (l + m) (shiftedBy n p)
+raiseToken l n (MultilineHint m p) = MultilineHint (l + m) (shiftedBy n p)
+raiseToken l n (MultilineValue m i p) = MultilineValue (l + m) (shiftedBy n i) (shiftedBy n p)
 raiseToken l n (NoValue m) = NoValue (l + m)
 
 unfoldable pub raise : ℕ → ℕ → Answer → Answer

@@ -6,13 +6,13 @@ use Rattle.text.specs.Ascii.{ascii}
 use Rattle.tokenizer.proofs.Examples.{part}
 use Rattle.parser.specs.Lists.{topEntries}
 use Rattle.parser.proofs.Examples.{rules as parserRules}
-use Rattle.look_up.specs.Entries.{keysOf, refusalIn, extent, entriesOf, isSame, firstOf, lookUp}
+use Rattle.look_up.specs.Entries.{keysOf, refusalIn, extent, entriesOf, isSame, firstNamed, lookUp}
 use Rattle.look_up.specs.declared.search.Found.{Found}
 use Rattle.look_up.specs.declared.search.Found.the-variants.{Nothing, At, Refused}
 
 -- what computing a look-up unfolds
 unfoldable rules : List ℕ → List ℕ → Found
-unfolding parserRules topEntries keysOf refusalIn extent entriesOf isSame firstOf lookUp
+unfolding parserRules topEntries keysOf refusalIn extent entriesOf isSame firstNamed lookUp
 rules d w = lookUp d w
 
 -- an empty document has no `a`

@@ -19,7 +19,7 @@ use Rattle.parser_claims.specs.Claims.{Fits, All}
 use Rattle.parser_claims.proofs.Claimed.{fit}
 use Rattle.parser_claims.proofs.Ordered.{Ordered, parse-ordered}
 use Rattle.parser_claims.proofs.Ordered as ordered
-use Rattle.look_up.specs.Entries.{Key, keysOf, refusalIn, extent, entriesOf, isSame, firstOf, lookUp}
+use Rattle.look_up.specs.Entries.{Key, keysOf, refusalIn, extent, entriesOf, isSame, firstNamed, lookUp}
 use Rattle.look_up.specs.declared.search.Found.{Found}
 use Rattle.look_up.specs.declared.search.Found.the-variants.{Nothing, At, Refused}
 use Rattle.look_up.proofs.Searched.{look-up-over}
@@ -75,8 +75,8 @@ module _ (d w : List ℕ) where
   extent-within r k h (one a b s) = record { starts = a; ends = b }
 
   first-within : (r : Found) → FoundWithin d r → {n : ℕ} {ks : List Key} → KeysFrom d n ks
-      → FoundWithin d (firstOf d w r (entriesOf (length d) r ks))
-  unfolding entriesOf firstOf
+      → FoundWithin d (firstNamed d w r (entriesOf (length d) r ks))
+  unfolding entriesOf firstNamed
   first-within r f none = f
   first-within r f (one {k = k} a b s) =
       on-cond (FoundWithin d) (isSame (bytesOf d (k .text)) w) (λ e. extent-within r k b s) (λ e. first-within r f s)

@@ -15,7 +15,7 @@ use Rattle.parser.specs.Lists.{topEntries, parse}
 use Rattle.parser_rules.specs.declared.ruling.Answer.{Answer}
 use Rattle.parser_rules.specs.declared.ruling.Answer.the-variants as answer
 use Rattle.parser_claims.proofs.Ordered.{Ordered, last, more}
-use Rattle.look_up.specs.Entries.{Key, keysOf, refusalIn, extent, entriesOf, isSame, firstOf, lookUp}
+use Rattle.look_up.specs.Entries.{Key, keysOf, refusalIn, extent, entriesOf, isSame, firstNamed, lookUp}
 use Rattle.look_up.specs.Search.{closedAt, onTopKey, onKey, onToken, onAnswer}
 use Rattle.look_up.specs.declared.search.Found.{Found}
 use Rattle.look_up.specs.declared.search.Found.the-variants as found
@@ -27,7 +27,7 @@ use Rattle.look_up.specs.declared.search.Turn.the-variants.{Goes, Ends}
 
 -- over the limit the list is the one refusal 12, and so is what is found
 pub look-up-over : (d w : List ℕ) → 16777216 < length d → lookUp d w ≡ found.Refused 12 0
-unfolding lookUp parse refusalIn topEntries keysOf entriesOf firstOf
+unfolding lookUp parse refusalIn topEntries keysOf entriesOf firstNamed
 look-up-over d w h = rw (lt-ltb 16777216 (length d) h)
 
 abbrev search : ℕ → ℕ → Hit → Search
@@ -47,7 +47,7 @@ keyAt-extent n r k (m ∷ ks) = refl
 module _ (d w : List ℕ) where
   -- from a hit on, in the keys that are left, r being the refusal after them
   abbrev pub fromHit : Hit → Found → List Key → Found
-  fromHit Nothing r ks = firstOf d w r (entriesOf (length d) r ks)
+  fromHit Nothing r ks = firstNamed d w r (entriesOf (length d) r ks)
   fromHit (At l a) r ks = extent (length d) r (keyAt l a) ks
 
   unfoldable pub searched : Search → List Answer → Found
@@ -58,7 +58,7 @@ module _ (d w : List ℕ) where
   turned (Ends f) l = f
 
   pub searched-end : (s : Search) → searched s [] ≡ closedAt (s .hit) (length d)
-  unfolding searched refusalIn topEntries keysOf entriesOf firstOf extent closedAt
+  unfolding searched refusalIn topEntries keysOf entriesOf firstNamed extent closedAt
   searched-end s = from (s .hit)
     where
       from : (h : Hit) → fromHit h found.Nothing [] ≡ closedAt h (length d)
@@ -66,13 +66,13 @@ module _ (d w : List ℕ) where
       from (At l a) = refl
 
   refused : (h : Hit) (n l : ℕ) → fromHit h (found.Refused n l) [] ≡ found.Refused n l
-  unfolding entriesOf firstOf extent
+  unfolding entriesOf firstNamed extent
   refused Nothing n l = refl
   refused (At m a) n l = refl
 
   on-key : (i o : ℕ) (h : Hit) (m : ℕ) (p : Part) (l : List Answer)
       → fromHit h (refusalIn l) (record { line = m; text = p } ∷ keysOf (topEntries i o l)) ≡ turned (onTopKey d w (search i o h) m p h) l
-  unfolding searched entriesOf firstOf extent closedAt onTopKey
+  unfolding searched entriesOf firstNamed extent closedAt onTopKey
   on-key i o Nothing m p l =
       by-bool (isSame (bytesOf d p) w)
       (λ s. rw s (keyAt-extent (length d) (refusalIn l) (record { line = m; text = p }) (keysOf (topEntries i o l))))

@@ -75,19 +75,19 @@ isSame (a ∷ s) [] = false
 isSame (a ∷ s) (b ∷ t) = eqb a b && isSame s t
 
 -- the first entry with the bytes w as its key; r where there is none
-unfoldable pub firstOf : List ℕ → List ℕ → Found → List Entry → Found
-firstOf d w r [] = r
-firstOf d w r (e ∷ es) = cond (isSame (bytesOf d (e .key .text)) w) (e .found) (firstOf d w r es)
+unfoldable pub firstNamed : List ℕ → List ℕ → Found → List Entry → Found
+firstNamed d w r [] = r
+firstNamed d w r (e ∷ es) = cond (isSame (bytesOf d (e .key .text)) w) (e .found) (firstNamed d w r es)
 
 -- the look-up; over the limit the list is the refusal 12, and so is the answer
 unfoldable pub lookUp : List ℕ → List ℕ → Found
-lookUp d w = firstOf d w (refusalIn (parse d)) (entries d)
+lookUp d w = firstNamed d w (refusalIn (parse d)) (entries d)
 
 -- the bytes of the part that is found, else none
-abbrev pub foundIn : List ℕ → Found → List ℕ
-foundIn d Nothing = []
-foundIn d (At l p) = bytesOf d p
-foundIn d (Refused n l) = []
+abbrev pub foundBytes : List ℕ → Found → List ℕ
+foundBytes d Nothing = []
+foundBytes d (At l p) = bytesOf d p
+foundBytes d (Refused n l) = []
 
 unfoldable pub entryOf : List ℕ → List ℕ → List ℕ
-entryOf d w = foundIn d (lookUp d w)
+entryOf d w = foundBytes d (lookUp d w)

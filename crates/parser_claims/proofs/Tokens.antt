@@ -15,7 +15,7 @@ use Rattle.text.proofs.Front.{break-pos}
 use Rattle.text.specs.declared.bytes.Part.{Part}
 use Rattle.text.specs.Bytes.{lineEnd}
 use Rattle.text.specs.declared.trimming.Dropped.the-variants.{Blanks, BlanksAndBreaks}
-use Rattle.tokenizer_scans.specs.Scans.{blanks, plainEnd, textEnd, checkedOf, extent, linesOf}
+use Rattle.tokenizer_scans.specs.Scans.{blanks, plainEnd, textEnd, checkedOf, multilineEnd, linesOf}
 use Rattle.tokenizer_rules.specs.Plan.{said, withValue, hintMarks, cleared, planNewline, planComment, planItem, planKey, planPlain, planMultiline, planOutdent}
 use Rattle.tokenizer.specs.Step.{bytesOf, sizeOf, afterPlan, stepWith, stepRule, stepOf}
 use Rattle.tokenizer.specs.Lists.{isEnd}
@@ -175,7 +175,7 @@ module _ (d : List ℕ) (t : State) where
                   });
               multiline = λ c i e u h w.
                   let y = planMultiline (cleared (t .marks)) indent rest in
-                  said-told _ (checkedOf BlanksAndBreaks (take (extent indent false rest) rest)) (after y) some
+                  said-told _ (checkedOf BlanksAndBreaks (take (multilineEnd indent false rest) rest)) (after y) some
                   (λ p q. (u, unmarked (early i) false≢true refl (omega (arith, w .falls (rw q)))));
               opens = λ c i e u n h w. (n, unmarked (early i) false≢true (add-one (t .depth)) (omega (arith, w .falls refl)));
               full = λ c i e u n h w. some;

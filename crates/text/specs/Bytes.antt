@@ -1,9 +1,10 @@
 -- Law: document 01, 'Bytes and UTF-8': blanks, line breaks, the line's end. A text is the list of its bytes.
-use Prim.Native.Nat.{ℕ, zero, suc}
+use Prim.Native.Nat.{ℕ, zero, suc, _+_}
 use Prim.Native.Char.{code as byte}
 use mathlib.Core.List.{List, [], _∷_}
 use mathlib.Core.Bool.{Bool, true, false, cond, not, _||_, _&&_}
 use lib.Dec.{eqb}
+use Rattle.text.specs.declared.bytes.Part.{Part}
 use Rattle.text.specs.declared.bytes.First.{First}
 use Rattle.text.specs.declared.bytes.First.the-variants.{Byte, Nothing}
 
@@ -43,3 +44,7 @@ unfoldable pub startsWith : List ℕ → List ℕ → Bool
 startsWith [] s = true
 startsWith (a ∷ p) [] = false
 startsWith (a ∷ p) (b ∷ s) = let t = startsWith p s in eqb a b && t
+
+-- a part, counted from n bytes further in front
+abbrev pub shiftedBy : ℕ → Part → Part
+shiftedBy n p = record { start = n + p .start; end = n + p .end }

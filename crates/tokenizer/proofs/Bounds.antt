@@ -6,7 +6,7 @@ use mathlib.Core.List.{List, _∷_}
 use mathlib.Core.Bool.{false}
 use native.Mathlib.Omega.{arith}
 use lib.ListN.{length, take, drop, length-take, length-drop}
-use Rattle.text.specs.Bytes.{notBreak, lineEnd}
+use Rattle.text.specs.Bytes.{notBreak, lineEnd, shiftedBy}
 use Rattle.text.specs.Trimming.{dropped, trimmed}
 use Rattle.text.specs.Utf8.{utf8}
 use Rattle.text.specs.declared.bytes.Part.{Part}
@@ -16,8 +16,8 @@ use Rattle.text.proofs.Cases.{on-cond}
 use Rattle.text.proofs.Front.{break-le, break-pos}
 use Rattle.text.proofs.Scan.{count-le}
 use Rattle.text.proofs.Trimmed.{trimmed-le}
-use Rattle.tokenizer_scans.specs.Scans.{plainEnd, textEnd, checkedOf, extent, linesOf}
-use Rattle.tokenizer_rules.specs.Plan.{shiftedBy, said, planNewline, planComment, planItem, planKey, planPlain, planMultiline, planOutdent, planAt}
+use Rattle.tokenizer_scans.specs.Scans.{plainEnd, textEnd, checkedOf, multilineEnd, linesOf}
+use Rattle.tokenizer_rules.specs.Plan.{said, planNewline, planComment, planItem, planKey, planPlain, planMultiline, planOutdent, planAt}
 use Rattle.tokenizer.specs.Step.{reach, depthAfter}
 use Rattle.tokenizer_rules.specs.declared.plan.Marks.{Marks}
 use Rattle.tokenizer_rules.specs.declared.plan.Says.{Says}
@@ -62,7 +62,7 @@ module _ (m : Marks) (depth : ℕ) (inner indent rest : List ℕ) (k : ℕ) wher
           comment = λ e s.
               omega (arith, count-le notBreak r, said-le (λ p. Comment (shiftedBy (k + 1) p)) (k + 1) (λ p h. omega arith) Blanks (lineEnd r) r);
           multiline = λ c i d u.
-              let n = extent indent false rest in
+              let n = multilineEnd indent false rest in
               omega (
                 arith,
                 extent-le indent false rest,

@@ -21,7 +21,7 @@ use Rattle.tokenizer_scans.specs.Scans.{
   piece,
   isVoid,
   belongsTo,
-  extent,
+  multilineEnd,
   breaksAfter,
   endsInBreak,
   lineCount,
@@ -81,7 +81,7 @@ unfolding
     piece
     isVoid
     belongsTo
-    extent
+    multilineEnd
     breaksAfter
     endsInBreak
     lineCount

@@ -5,10 +5,11 @@ use mathlib.Core.List.{List, [], _∷_}
 use mathlib.Core.Bool.{Bool, true, false, cond, _&&_}
 use lib.ListN.{length, take, drop, getD, set, replicate}
 use lib.Dec.{leb, ltb}
+use Rattle.text.specs.Bytes.{shiftedBy}
 use Rattle.text.specs.Numbers.{maxDocument, maxOpen, tooLong, unfitState}
 use Rattle.text.specs.declared.bytes.Part.{Part}
 use Rattle.tokenizer_scans.specs.Scans.{blanks}
-use Rattle.tokenizer_rules.specs.Plan.{shiftedBy, planAt}
+use Rattle.tokenizer_rules.specs.Plan.{planAt}
 use Rattle.tokenizer_rules.specs.declared.plan.Says.{Says}
 use Rattle.tokenizer_rules.specs.declared.plan.Says.the-variants.{
   End,

@@ -36,19 +36,19 @@ pub record Values : Type 0 where
 abbrev pub bare : ℕ → ℕ → Values
 bare n l = record { number = n; line = l; start = 0; end = 0; from = 0; to = 0 }
 
-abbrev pub worded : ℕ → ℕ → Part → Values
-worded n l p = record { number = n; line = l; start = p .start; end = p .end; from = 0; to = 0 }
+abbrev pub withText : ℕ → ℕ → Part → Values
+withText n l p = record { number = n; line = l; start = p .start; end = p .end; from = 0; to = 0 }
 
 -- a token's kind and values
 unfoldable pub tokenValues : Token → Values
 tokenValues (Newline l) = bare 1 l
-tokenValues (Comment l p) = worded 2 l p
+tokenValues (Comment l p) = withText 2 l p
 tokenValues (Indent l) = bare 3 l
 tokenValues (Outdent l) = bare 4 l
 tokenValues (ListItem l) = bare 5 l
-tokenValues (MapKey l p) = worded 6 l p
-tokenValues (Value l p) = worded 7 l p
-tokenValues (MultilineHint l p) = worded 8 l p
+tokenValues (MapKey l p) = withText 6 l p
+tokenValues (Value l p) = withText 7 l p
+tokenValues (MultilineHint l p) = withText 8 l p
 tokenValues (MultilineValue l i p) = record { number = 9; line = l; start = p .start; end = p .end; from = i .start; to = i .end }
 tokenValues (NoValue l) = bare 10 l
 

@@ -15,9 +15,9 @@ use tokenizer_rules::Says;
 ghost use mathlib.Core.Path.{_≡_};
 ghost use Prim.Native.Nat.{_+_, _<_, _≤_, _^_};
 ghost use lib.ListN.{length};
+ghost use Rattle.text.specs.Bytes.{shiftedBy};
 ghost use Rattle.text.specs.Numbers.{maxDocument, maxOpen, unfitState};
-ghost use Rattle.tokenizer_rules.specs.Plan.{shiftedBy};
-ghost use Rattle.tokenizer.specs.Token.{bare, worded, valuesOf};
+ghost use Rattle.tokenizer.specs.Token.{bare, withText, valuesOf};
 ghost use Rattle.tokenizer.specs.Step.{answerOf, reach, depthAfter};
 ghost use Rattle.tokenizer.specs.Front.{saidBy, advancedBy, near, staying, advancedOf};
 
@@ -64,7 +64,7 @@ fn say(number: usize, line: usize) -> Said
 fn say_text(number: usize, line: usize, place: usize, p: Part) -> Said
     requires { ⌜ place + p .start < 2 ^ 64 ⌝ }
     requires { ⌜ place + p .end < 2 ^ 64 ⌝ }
-    ensures { λ r. ⌜ r ≡ saidBy (worded number line (shiftedBy place p)) ⌝ }
+    ensures { λ r. ⌜ r ≡ saidBy (withText number line (shiftedBy place p)) ⌝ }
 {
     Said {
         number,

@@ -12,8 +12,9 @@ ghost use mathlib.Core.Bool.{true, cond};
 ghost use Prim.Native.Nat.{_+_, _-_, _<_, _≤_, _^_};
 ghost use lib.Dec.{eqb};
 ghost use lib.ListN.{length, drop, set};
+ghost use Rattle.text.specs.Bytes.{shiftedBy};
 ghost use Rattle.text.specs.Numbers.{maxOpen};
-ghost use Rattle.tokenizer_rules.specs.Plan.{shiftedBy, planAt};
+ghost use Rattle.tokenizer_rules.specs.Plan.{planAt};
 ghost use Rattle.tokenizer.specs.Token.{valuesOf};
 ghost use Rattle.tokenizer.specs.Step.{
   indentOf,
@@ -104,7 +105,7 @@ pub(crate) fn indent_at(held: Held, place: usize, rest: &[u8]) -> Indentation
 }
 
 // A part counted from the place, counted from the document's start.
-fn placed(place: usize, p: Part) -> Part
+fn shifted(place: usize, p: Part) -> Part
     requires { ⌜ place + p .start < 2 ^ 64 ⌝ }
     requires { ⌜ place + p .end < 2 ^ 64 ⌝ }
     ensures { λ r. ⌜ r ≡ shiftedBy place p ⌝ }
@@ -123,17 +124,17 @@ fn answered(says: Says, line: usize, place: usize, indent: Part) -> Answer
     match says {
         Says::End => Answer::End,
         Says::Newline => Answer::Token(Token::Newline(line)),
-        Says::Comment(p) => Answer::Token(Token::Comment(line, placed(place, p))),
+        Says::Comment(p) => Answer::Token(Token::Comment(line, shifted(place, p))),
         Says::Indent => Answer::Token(Token::Indent(line)),
         Says::Outdent => Answer::Token(Token::Outdent(line)),
         Says::ListItem => Answer::Token(Token::ListItem(line)),
-        Says::MapKey(p) => Answer::Token(Token::MapKey(line, placed(place, p))),
-        Says::Value(p) => Answer::Token(Token::Value(line, placed(place, p))),
-        Says::MultilineHint(p) => Answer::Token(Token::MultilineHint(line, placed(place, p))),
+        Says::MapKey(p) => Answer::Token(Token::MapKey(line, shifted(place, p))),
+        Says::Value(p) => Answer::Token(Token::Value(line, shifted(place, p))),
+        Says::MultilineHint(p) => Answer::Token(Token::MultilineHint(line, shifted(place, p))),
         Says::MultilineValue(p) => Answer::Token(Token::MultilineValue(
             line,
             indent,
-            placed(place, p),
+            shifted(place, p),
         )),
         Says::Refused(n) => Answer::Refused(n, line),
     }

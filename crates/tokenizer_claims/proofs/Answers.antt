@@ -8,14 +8,14 @@ use native.Mathlib.Omega.{arith}
 use lib.ListN.{length, take, drop, length-drop}
 use lib.Seq.{drop-drop}
 use Rattle.text.specs.Utf8.{utf8}
-use Rattle.text.specs.Bytes.{lineEnd}
+use Rattle.text.specs.Bytes.{lineEnd, shiftedBy}
 use Rattle.text.specs.Trimming.{dropped, trimmed}
 use Rattle.text.specs.declared.bytes.Part.{Part}
 use Rattle.text.specs.declared.trimming.Dropped.{Dropped}
 use Rattle.text.specs.declared.trimming.Dropped.the-variants.{Blanks, BlanksAndBreaks}
 use Rattle.text.proofs.Cases.{on-cond}
-use Rattle.tokenizer_scans.specs.Scans.{blanks, plainEnd, textEnd, checkedOf, extent, linesOf}
-use Rattle.tokenizer_rules.specs.Plan.{shiftedBy, said, planNewline, planComment, planItem, planKey, planPlain, planMultiline, planOutdent}
+use Rattle.tokenizer_scans.specs.Scans.{blanks, plainEnd, textEnd, checkedOf, multilineEnd, linesOf}
+use Rattle.tokenizer_rules.specs.Plan.{said, planNewline, planComment, planItem, planKey, planPlain, planMultiline, planOutdent}
 use Rattle.tokenizer.specs.Step.{bytesOf, sizeOf}
 use Rattle.tokenizer_rules.specs.declared.plan.Says.{Says}
 use Rattle.tokenizer_rules.specs.declared.plan.Says.the-variants as says
@@ -68,7 +68,7 @@ module _ (d : List ℕ) (s : State) (o : Sound d s) where
           newline = λ e. tt;
           comment = λ e c. said-vouched _ Blanks (lineEnd r) r (λ p. text-at (k + 1) r p (omega arith) (after 1));
           multiline = λ c i e u.
-              said-vouched says.MultilineValue BlanksAndBreaks (extent (bytesOf d (indentAt d s)) false (restOf d s)) (restOf d s)
+              said-vouched says.MultilineValue BlanksAndBreaks (multilineEnd (bytesOf d (indentAt d s)) false (restOf d s)) (restOf d s)
               (λ p x. (indentation-text d (indentAt d s) (indent-sound d s o), text-drop (s .place) d p (o .place) x));
           opens = λ c i e u n. tt;
           full = λ c i e u n. omega arith;

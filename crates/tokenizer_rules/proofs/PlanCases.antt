@@ -7,34 +7,11 @@ use mathlib.Core.Bool.{Bool, true, false, cond, not, _&&_}
 use lib.ListN.{take, drop}
 use lib.Dec.{eqb, ltb}
 use borrow.Author.Tests.{ltb-true, ltb-false}
-use Rattle.text.specs.Bytes.{isBreak, lineEnd, startsWith}
+use Rattle.text.specs.Bytes.{isBreak, lineEnd, startsWith, shiftedBy}
 use Rattle.text.specs.declared.trimming.Dropped.the-variants.{Blanks}
 use Rattle.text.proofs.Cases.{on-cond}
 use Rattle.tokenizer_scans.specs.Scans.{relationOf, plainEnd, checkedOf, beginsHint}
-use Rattle.tokenizer_rules.specs.Plan.{
-  keeps,
-  shiftedBy,
-  said,
-  withValue,
-  planNewline,
-  planEnd,
-  planComment,
-  planItem,
-  planKey,
-  planPlain,
-  hintMarks,
-  planHint,
-  planValue,
-  planEntry,
-  planMultiline,
-  planOpen,
-  planOutdent,
-  onRelation,
-  cleared,
-  planIndented,
-  planOn,
-  planAt,
-}
+use Rattle.tokenizer_rules.specs.Plan.{keeps, said, withValue, planNewline, planEnd, planComment, planItem, planKey, planPlain, hintMarks, planHint, planValue, planEntry, planMultiline, planOpen, planOutdent, onRelation, cleared, planIndented, planOn, planAt}
 use Rattle.tokenizer_scans.specs.declared.readers.Relation.{Relation}
 use Rattle.tokenizer_scans.specs.declared.readers.Relation.the-variants.{Equal, Deeper, Other}
 use Rattle.tokenizer_rules.specs.declared.plan.Marks.{Marks}

@@ -8,7 +8,7 @@ use mathlib.Core.Bool.{Bool, true, false, cond, not, _&&_}
 use lib.ListN.{take, drop}
 use lib.Dec.{eqb, ltb}
 use Rattle.text.specs.Ascii.{ascii}
-use Rattle.text.specs.Bytes.{isBreak, breakSize, lineEnd, startsWith}
+use Rattle.text.specs.Bytes.{isBreak, breakSize, lineEnd, startsWith, shiftedBy}
 use Rattle.text.specs.Numbers.{maxOpen, invalidUtf8, charactersAfterQuotes, tooManyOpen}
 use Rattle.text.specs.declared.bytes.Part.{Part}
 use Rattle.text.specs.declared.trimming.Dropped.the-variants.{Blanks, BlanksAndBreaks}
@@ -39,10 +39,6 @@ use Rattle.tokenizer_rules.specs.declared.plan.Plan.{Plan}
 -- a plan that adds no line and leaves the sections as they are
 abbrev pub keeps : Says → ℕ → Marks → Plan
 keeps s n m = record { says = s; pass = n; lines = 0; marks = m; change = Keep }
-
--- a part, counted from n bytes further in front
-abbrev pub shiftedBy : ℕ → Part → Part
-shiftedBy n p = record { start = n + p .start; end = n + p .end }
 
 -- a text that was read, as what a step says: 1 where it is not UTF-8
 abbrev pub said : (Part → Says) → Text → Says

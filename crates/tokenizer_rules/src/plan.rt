@@ -17,27 +17,11 @@ use tokenizer_scans::text_len;
 ghost use mathlib.Core.Path.{_≡_};
 ghost use Prim.Native.Nat.{_+_, _<_, _^_};
 ghost use mathlib.Core.Bool.{cond};
+ghost use Rattle.text.specs.Bytes.{shiftedBy};
 ghost use Rattle.tokenizer_scans.specs.Scans.{relationOf};
 ghost use Rattle.tokenizer_scans.specs.declared.readers.Relation.the-variants.{Equal};
 ghost use lib.ListN.{length};
-ghost use Rattle.tokenizer_rules.specs.Plan.{
-  keeps,
-  shiftedBy,
-  planEnd,
-  planNewline,
-  beginsComment,
-  planComment,
-  planKey,
-  planHint,
-  planValue,
-  planEntry,
-  planMultiline,
-  planOpen,
-  cleared,
-  planOutdent,
-  planIndented,
-  planAt,
-};
+ghost use Rattle.tokenizer_rules.specs.Plan.{keeps, planEnd, planNewline, beginsComment, planComment, planKey, planHint, planValue, planEntry, planMultiline, planOpen, cleared, planOutdent, planIndented, planAt};
 
 // The most sections that are open at once, the top level apart: tokenizer::State has it as its own.
 pub const MAX_OPEN: usize = 64;

@@ -1,5 +1,5 @@
 -- Laws of the pieces of a multiline value. The loop of `multiline_len` goes piece by piece, the definitions go byte by byte with
--- what stands before carried along; `Passed` is the loop's invariant. Also the bounds of `extent` and of `lineCount`.
+-- what stands before carried along; `Passed` is the loop's invariant. Also the bounds of `multilineEnd` and of `lineCount`.
 use Prim.Native.Nat.{ℕ, suc, _+_, _-_, _≤_, _<_}
 use mathlib.Core.Path.{_≡_, refl, ap}
 use mathlib.Core.List.{List, [], _∷_}
@@ -13,7 +13,7 @@ use lib.Seq.{take-nil, drop-drop}
 use borrow.Author.Tests.{eqb-true}
 use Rattle.text.specs.Bytes.{isBreak, countWhile, lineEnd}
 use Rattle.text.proofs.Cases.{by-bool, on-cond}
-use Rattle.tokenizer_scans.specs.Scans.{piece, pieceLen, belongsTo, extent, breaksAfter, isLf, endsInCr, endsInBreak, lineCount, linesOf}
+use Rattle.tokenizer_scans.specs.Scans.{piece, pieceLen, belongsTo, multilineEnd, breaksAfter, isLf, endsInCr, endsInBreak, lineCount, linesOf}
 
 -- The length of a piece, from the line's end.
 pub piece-break : (s : List ℕ) → lineEnd s < length s → pieceLen s ≡ suc (lineEnd s)
@@ -47,28 +47,28 @@ unfolding piece pieceLen
 piece-take [] = refl
 piece-take (b ∷ r) = by-bool (isBreak b) (λ e. rw e) (λ e. rw e (ap (λ t. b ∷ t) (piece-take r)))
 
--- The extent, at the start of a piece.
+-- The multilineEnd, at the start of a piece.
 module _ (indent : List ℕ) where
   -- inside a piece it goes on to the piece's end
-  inside : (s : List ℕ) → extent indent true s ≡ pieceLen s + extent indent false (drop (pieceLen s) s)
-  unfolding piece pieceLen extent
+  inside : (s : List ℕ) → multilineEnd indent true s ≡ pieceLen s + multilineEnd indent false (drop (pieceLen s) s)
+  unfolding piece pieceLen multilineEnd
   inside [] = refl
   inside (b ∷ r) = by-bool (isBreak b) (λ e. rw (e, one-add)) (λ e. rw (e, suc-add) (ap suc (inside r)))
 
   -- a piece that does not belong ends it
-  outside : (s : List ℕ) → belongsTo indent (piece s) ≡ false → extent indent false s ≡ 0
-  unfolding extent
+  outside : (s : List ℕ) → belongsTo indent (piece s) ≡ false → multilineEnd indent false s ≡ 0
+  unfolding multilineEnd
   outside [] e = refl
   outside (b ∷ r) e = rw e
 
   -- one that belongs is part of it
-  onward : (s : List ℕ) → belongsTo indent (piece s) ≡ true → extent indent false s ≡ pieceLen s + extent indent false (drop (pieceLen s) s)
-  unfolding extent
+  onward : (s : List ℕ) → belongsTo indent (piece s) ≡ true → multilineEnd indent false s ≡ pieceLen s + multilineEnd indent false (drop (pieceLen s) s)
+  unfolding multilineEnd
   onward [] e = inside []
   onward (b ∷ r) e = rw e (inside (b ∷ r))
 
-  pub extent-le : (within : Bool) (s : List ℕ) → extent indent within s ≤ length s
-  unfolding extent
+  pub extent-le : (within : Bool) (s : List ℕ) → multilineEnd indent within s ≤ length s
+  unfolding multilineEnd
   extent-le within [] = omega arith
   extent-le within (b ∷ r) =
       on-cond (λ n. n ≤ suc (length r)) (within || belongsTo indent (piece (b ∷ r))) (λ _. omega (arith, extent-le (not (isBreak b)) r)) (λ _. omega arith)
@@ -139,7 +139,7 @@ first-line cr n (b ∷ r) h =
 
 -- The bytes of the value in front.
 abbrev pub value : List ℕ → List ℕ → List ℕ
-value indent s = take (extent indent false s) s
+value indent s = take (multilineEnd indent false s) s
 
 next-line : (indent : List ℕ) (cr : Bool) (s : List ℕ) → 0 < length s → belongsTo indent (piece s) ≡ true
     → linesAfter cr (value indent s) ≡ cond (cr && isLf (piece s)) 0 1 + linesAfter (endsInCr false (piece s)) (value indent (drop (pieceLen s) s))
@@ -149,7 +149,7 @@ next-line indent cr s h b = rw (onward indent s b) (first-line cr _ s h)
 pub record Passed (indent s : List ℕ) (len count : ℕ) (cr : Bool) : Type 0 where
   pub within : len ≤ length s
   pub few : count ≤ len
-  pub bytes : extent indent false s ≡ len + extent indent false (drop len s)
+  pub bytes : multilineEnd indent false s ≡ len + multilineEnd indent false (drop len s)
   pub lines : lineCount (value indent s) ≡ count + linesAfter cr (value indent (drop len s))
 
 pub none-passed : (indent s : List ℕ) → Passed indent s 0 0 false
@@ -176,7 +176,7 @@ module _ (indent s : List ℕ) {len count : ℕ} {cr : Bool} (p : Passed indent 
       → {cr′ : Bool} → cr′ ≡ endsInCr false (take n (drop len s)) → Passed indent s (len + n) count′ cr′
   again h e = rw (e, piece-take (drop len s)) (more-passed h)
 
-  done : extent indent false (drop len s) ≡ 0 → linesOf indent s ≡ record { len = len; count = count }
+  done : multilineEnd indent false (drop len s) ≡ 0 → linesOf indent s ≡ record { len = len; count = count }
   unfolding linesOf linesAfter breaksAfter endsInBreak
   done e = rw (p .lines, p .bytes, e, add-zero len, add-zero count)
 
@@ -186,5 +186,5 @@ module _ (indent s : List ℕ) {len count : ℕ} {cr : Bool} (p : Passed indent 
 
   -- no piece is left
   pub end : length s ≤ len → linesOf indent s ≡ record { len = len; count = count }
-  unfolding extent
+  unfolding multilineEnd
   end h = done (rw (drop-of-length-le s h))

@@ -83,10 +83,10 @@ unfoldable pub belongsTo : List ℕ → List ℕ → Bool
 belongsTo indent p = startsWith indent p || isVoid p
 
 -- the bytes of a multiline value, piece by piece; inside: not at the start of a piece
-unfoldable pub extent : List ℕ → Bool → List ℕ → ℕ
-extent indent inside [] = 0
-extent indent inside (b ∷ r) =
-    let n = suc (extent indent (not (isBreak b)) r) in
+unfoldable pub multilineEnd : List ℕ → Bool → List ℕ → ℕ
+multilineEnd indent inside [] = 0
+multilineEnd indent inside (b ∷ r) =
+    let n = suc (multilineEnd indent (not (isBreak b)) r) in
     cond (inside || belongsTo indent (piece (b ∷ r))) n 0
 
 -- the line breaks, CR LF being one; cr: a CR stands before
@@ -122,4 +122,4 @@ lineCount s = breaks s + cond (endsInBreak true s) 0 1
 
 -- a multiline value of that indentation: its bytes and the lines that it adds
 unfoldable pub linesOf : List ℕ → List ℕ → Lines
-linesOf indent s = record { len = extent indent false s; count = lineCount (take (extent indent false s) s) }
+linesOf indent s = record { len = multilineEnd indent false s; count = lineCount (take (multilineEnd indent false s) s) }

@@ -3,7 +3,7 @@ use text::Part;
 use tokenizer::Said;
 use tokenizer::Token;
 ghost use mathlib.Core.Path.{_≡_};
-ghost use Rattle.tokenizer.specs.Token.{bare, worded, tokenValues};
+ghost use Rattle.tokenizer.specs.Token.{bare, withText, tokenValues};
 ghost use Rattle.tokenizer_words.specs.Rows.{rowOf, rowBy};
 
 // The refusals before the first step: 2^63, which is above any count of rows, and 12 or 15.
@@ -19,7 +19,7 @@ pub fn bare_row(number: usize, line: usize) -> [usize; 7]
 }
 
 fn worded_row(number: usize, line: usize, p: Part) -> [usize; 7]
-    ensures { λ r. ⌜ r ≡ rowOf (worded number line p) ⌝ }
+    ensures { λ r. ⌜ r ≡ rowOf (withText number line p) ⌝ }
 {
     [number, line, p.start, p.end, 0, 0, 0]
 }

@@ -17,10 +17,10 @@ use Rattle.unescape_pieces.specs.Meaning.{Meaning, part, bytes, code, refused, 
 use Rattle.unescape_pieces.specs.Pieces.{meaningFrom, startOf}
 use Rattle.unescape_pieces.specs.declared.pieces.Spot.{Spot}
 use Rattle.unescape_pieces.specs.declared.pieces.Spot.the-variants.{Quotes, FirstLine, LaterLine, Break}
-use Rattle.unescape_pieces.specs.declared.words.Reading.{Reading}
-use Rattle.unescape_pieces.specs.declared.words.Start.the-variants.{Plain as Whole, Pieces}
+use Rattle.unescape_pieces.specs.declared.source.Style.{Style}
+use Rattle.unescape_pieces.specs.declared.source.Start.the-variants.{Plain as Whole, Pieces}
 use Rattle.unescape_pieces.proofs.Starts.{part-means, pieces-mean, pieces-lie}
-use Rattle.unescape.specs.Walk.{measuredOf, Fits, filled}
+use Rattle.unescape.specs.Walk.{measuredOf, WrittenFits, bufferAfter}
 use Rattle.unescape.specs.Unescape.{Unescaped, keptBuffer, refusal, delivered}
 use Rattle.unescape.specs.declared.Answer.{Answer}
 use Rattle.unescape.specs.declared.Answer.the-variants.{Plain, Written, Refused}
@@ -108,14 +108,14 @@ module _ (k from line : ℕ) (o : List ℕ) where
   too-short (code a e) x q h = let z : _≡_ {A = ℕ} 0 1 = cc in absurd (omega arith)
   too-short (refused r) x q h = let z : _≡_ {A = ℕ} 0 1 = cc in absurd (omega arith)
 
-  enough : {n : ℕ} (m : Meaning) → Ends k m → Length n ≡ measuredOf m → n ≤ length o → Fits m (length o)
+  enough : {n : ℕ} (m : Meaning) → Ends k m → Length n ≡ measuredOf m → n ≤ length o → WrittenFits m (length o)
   enough (part a e) x q h = x
   enough {n} (bytes w) x q h = let y : n ≡ length w = cc in omega arith
   enough (code a e) x q h = let z : _≡_ {A = ℕ} 0 1 = cc in absurd (omega arith)
   enough (refused r) x q h = let z : _≡_ {A = ℕ} 0 1 = cc in absurd (omega arith)
 
   wrote : {n : ℕ} (m : Meaning) → Ends k m → Length n ≡ measuredOf m → n ≤ length o
-      → delivered m from line o ≡ record { answer = Written n; buffer = filled m o }
+      → delivered m from line o ≡ record { answer = Written n; buffer = bufferAfter m o }
   unfolding delivered
   wrote (part a e) x q h = absurd x
   wrote {n} (bytes w) x q h = let y : n ≡ length w = cc in rw (y, le-leb (length w) (length o) (omega arith))
@@ -150,30 +150,30 @@ promised q = (ap (λ (x : Unescaped). x .answer) (sym q), ap (λ (x : Unescaped)
 abbrev pub Answered : Unescaped → Answer → List ℕ → Type 0
 Answered u a o = (a ≡ u .answer) × (o ≡ u .buffer)
 
-module _ (reading : Reading) (s indent o : List ℕ) (from line : ℕ) where
+module _ (style : Style) (s indent o : List ℕ) (from line : ℕ) where
   abbrev result : Unescaped
-  result = delivered (meaning reading s indent) from line o
+  result = delivered (meaning style s indent) from line o
 
-  pub plain-answered : {a e : ℕ} → startOf reading s ≡ Whole a e → Answered result (Plain (record { start = from + a; end = from + e })) o
-  plain-answered {a} {e} q = promised (ap (λ m. delivered m from line o) (part-means reading s indent q) ∙ parted a e from line o)
+  pub plain-answered : {a e : ℕ} → startOf style s ≡ Whole a e → Answered result (Plain (record { start = from + a; end = from + e })) o
+  plain-answered {a} {e} q = promised (ap (λ m. delivered m from line o) (part-means style s indent q) ∙ parted a e from line o)
 
-  module _ (n : ℕ) (spot : Spot) (q : startOf reading s ≡ Pieces n spot) where
+  module _ (n : ℕ) (spot : Spot) (q : startOf style s ≡ Pieces n spot) where
     abbrev meant : Meaning
     meant = meaningFrom spot indent (drop n s) n
 
     ends : Ends (length s) meant
-    ends = pieces-end spot indent s n (pieces-lie reading s q)
+    ends = pieces-end spot indent s n (pieces-lie style s q)
 
     by : {u : Unescaped} → delivered meant from line o ≡ u → Answered result (u .answer) (u .buffer)
-    by e = promised (ap (λ m. delivered m from line o) (pieces-mean reading s indent q) ∙ e)
+    by e = promised (ap (λ m. delivered m from line o) (pieces-mean style s indent q) ∙ e)
 
     pub short-answered : {k : ℕ} → Length k ≡ measuredOf meant → length o < k → Answered result (refusal 14 line) o
     short-answered r h = by (too-short (length s) from line o meant ends r h)
 
-    pub text-fits : {k : ℕ} → Length k ≡ measuredOf meant → k ≤ length o → Fits meant (length o)
+    pub text-fits : {k : ℕ} → Length k ≡ measuredOf meant → k ≤ length o → WrittenFits meant (length o)
     text-fits r h = enough (length s) from line o meant ends r h
 
-    pub text-answered : {k : ℕ} → Length k ≡ measuredOf meant → k ≤ length o → Answered result (Written k) (filled meant o)
+    pub text-answered : {k : ℕ} → Length k ≡ measuredOf meant → k ≤ length o → Answered result (Written k) (bufferAfter meant o)
     text-answered r h = by (wrote (length s) from line o meant ends r h)
 
     pub code-lies : {a e : ℕ} → CodeAt a e ≡ measuredOf meant → (a ≤ length s) × (e ≤ length s)

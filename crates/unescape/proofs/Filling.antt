@@ -9,7 +9,7 @@ use lib.ListN.{length, take, drop, getD, set, length-take, length-drop, length-a
 use lib.Seq.{take-suc, drop-cons, drop-drop, set-at, take-at, drop-at, length-take-le, take-length}
 use Rattle.text.proofs.Front.{from}
 use Rattle.unescape_pieces.specs.Meaning.{Meaning, part, bytes, code, refused, written}
-use Rattle.unescape.specs.Walk.{Fits, filled}
+use Rattle.unescape.specs.Walk.{WrittenFits, bufferAfter}
 
 -- one byte more of s
 pub copied : (s o out : List ℕ) (i : ℕ) → i < length s → i < length o → out ≡ take i s ++ drop i o
@@ -24,19 +24,19 @@ all-copied s o i h k = let e : i ≡ length s = le-antisymm h k in rw (e, take-l
 
 -- A meaning whose first bytes are w
 
-pub fits-first : (w : List ℕ) (m : Meaning) (n : ℕ) → Fits (written w m) n → length w ≤ n
+pub fits-first : (w : List ℕ) (m : Meaning) (n : ℕ) → WrittenFits (written w m) n → length w ≤ n
 fits-first w (part a e) n h = absurd h
 fits-first w (bytes l) n h = omega (arith, length-append w l)
 fits-first w (code a e) n h = absurd h
 fits-first w (refused r) n h = absurd h
 
-fits-rest : (w : List ℕ) (m : Meaning) (n k : ℕ) → n ≡ k + length w → Fits (written w m) n → Fits m k
+fits-rest : (w : List ℕ) (m : Meaning) (n k : ℕ) → n ≡ k + length w → WrittenFits (written w m) n → WrittenFits m k
 fits-rest w (part a e) n k q h = h
 fits-rest w (bytes l) n k q h = omega (arith, length-append w l)
 fits-rest w (code a e) n k q h = h
 fits-rest w (refused r) n k q h = h
 
-filled-first : (w : List ℕ) (m : Meaning) (n : ℕ) (o : List ℕ) → Fits (written w m) n → filled (written w m) o ≡ w ++ filled m (drop (length w) o)
+filled-first : (w : List ℕ) (m : Meaning) (n : ℕ) (o : List ℕ) → WrittenFits (written w m) n → bufferAfter (written w m) o ≡ w ++ bufferAfter m (drop (length w) o)
 filled-first w (part a e) n o h = absurd h
 filled-first w (bytes l) n o h = rw (append-assoc, length-append, drop-drop)
 filled-first w (code a e) n o h = absurd h
@@ -55,10 +55,10 @@ lent o w y n e = rw (e, from, drop-of-length-le (drop n o) {i = length o - n} (r
 pub record Wrote (total : List ℕ) (size : ℕ) (m : Meaning) (len : ℕ) (out : List ℕ) : Type 0 where
   pub same : length out ≡ size
   pub room : len ≤ length out
-  pub fits : Fits m (length out - len)
-  pub whole : total ≡ take len out ++ filled m (drop len out)
+  pub fits : WrittenFits m (length out - len)
+  pub whole : total ≡ take len out ++ bufferAfter m (drop len out)
 
-pub none-written : (m : Meaning) (o : List ℕ) → Fits m (length o) → Wrote (filled m o) (length o) m 0 o
+pub none-written : (m : Meaning) (o : List ℕ) → WrittenFits m (length o) → Wrote (bufferAfter m o) (length o) m 0 o
 none-written m o h = record { same = refl; room = omega arith; fits = rw sub-zero h; whole = refl }
 
 module _ {total : List ℕ} {size : ℕ} {m : Meaning} {len : ℕ} {o : List ℕ} (c : Wrote total size m len o) (w : List ℕ) (n : Meaning) (e : m ≡ written w n) where

@@ -16,11 +16,11 @@ use Rattle.tokenizer.specs.Step.{bytesOf, fitPart}
 use Rattle.tokenizer.specs.declared.token.Token.{Token}
 use Rattle.unescape_pieces.specs.Meaning.{Meaning, part, bytes, code, refused, meaning}
 use Rattle.unescape_pieces.specs.Pieces.{startOf, meaningFrom}
-use Rattle.unescape_pieces.specs.Words.{wordsOf, sound}
-use Rattle.unescape_pieces.specs.declared.words.Reading.{Reading}
-use Rattle.unescape_pieces.specs.declared.words.Worded.{Worded}
-use Rattle.unescape_pieces.specs.declared.words.Start.{Start}
-use Rattle.unescape_pieces.specs.declared.words.Start.the-variants.{Plain, Pieces}
+use Rattle.unescape_pieces.specs.Source.{sourceOf, sound}
+use Rattle.unescape_pieces.specs.declared.source.Style.{Style}
+use Rattle.unescape_pieces.specs.declared.source.Source.{Source}
+use Rattle.unescape_pieces.specs.declared.source.Start.{Start}
+use Rattle.unescape_pieces.specs.declared.source.Start.the-variants.{Plain, Pieces}
 use Rattle.unescape_pieces.proofs.Starts.{part-means, part-lies, pieces-mean, pieces-lie}
 use Rattle.unescape.specs.Walk.{plainBy}
 use Rattle.unescape.specs.Unescape.{keptBuffer, refusal, delivered, unescapeOf, shownBy, plainOf}
@@ -48,7 +48,7 @@ module _ (d : List ℕ) (t : Token) (o : List ℕ) where
   unfolding unescapeOf
   over h = rw (lt-ltb 16777216 (length d) h)
 
-  module _ (x : Worded) (l : ℕ) (q : x ≡ wordsOf t) (z : l ≡ lineOf t) (h : length d ≤ 16777216) where
+  module _ (x : Source) (l : ℕ) (q : x ≡ sourceOf t) (z : l ≡ lineOf t) (h : length d ≤ 16777216) where
     pub no-text : sound d (x .text) ≡ false → unescapeOf d t o ≡ keptBuffer (refusal 13 l) o
     unfolding unescapeOf
     no-text e = rw (← q, ← z, le-ltb 16777216 (length d) h, e)
@@ -58,7 +58,7 @@ module _ (d : List ℕ) (t : Token) (o : List ℕ) where
     no-indent e f = rw (← q, ← z, le-ltb 16777216 (length d) h, e, f)
 
     pub ruled : sound d (x .text) ≡ true → sound d (x .indent) ≡ true
-        → unescapeOf d t o ≡ delivered (meaning (x .reading) (bytesOf d (x .text)) (bytesOf d (x .indent))) (x .text .start) l o
+        → unescapeOf d t o ≡ delivered (meaning (x .style) (bytesOf d (x .text)) (bytesOf d (x .indent))) (x .text .start) l o
     unfolding unescapeOf
     ruled e f = rw (← q, ← z, le-ltb 16777216 (length d) h, e, f)
 
@@ -78,27 +78,27 @@ none-shown d k n l (bytes w) x = by-bool (leb (length w) 0) (λ e. rw e) (λ e. 
 none-shown d k n l (code a e) x = refl
 none-shown d k n l (refused r) x = refl
 
-module _ (d : List ℕ) (p : Part) (u : sound d p ≡ true) (reading : Reading) (indent : List ℕ) (l : ℕ) where
-  shown : (x : Start) → startOf reading (bytesOf d p) ≡ x
-      → shownBy d (delivered (meaning reading (bytesOf d p) indent) (p .start) l [] .answer) ≡ plainBy x (bytesOf d p)
+module _ (d : List ℕ) (p : Part) (u : sound d p ≡ true) (style : Style) (indent : List ℕ) (l : ℕ) where
+  shown : (x : Start) → startOf style (bytesOf d p) ≡ x
+      → shownBy d (delivered (meaning style (bytesOf d p) indent) (p .start) l [] .answer) ≡ plainBy x (bytesOf d p)
   unfolding delivered
   shown (Plain a e) q =
-      let h = part-lies reading (bytesOf d p) q in
+      let h = part-lies style (bytesOf d p) q in
       let f = sound-fits d p u in
-      rw (part-means reading (bytesOf d p) indent q)
+      rw (part-means style (bytesOf d p) indent q)
       (nested d (p .start) (p .end - p .start) a e (h .0) (omega (arith, h .1, length-take-le (p .end - p .start) (drop (p .start) d) (rw length-drop (omega arith)))))
-  shown (Pieces n spot) q = rw (pieces-mean reading (bytesOf d p) indent q)
-      (none-shown d (length (bytesOf d p)) (p .start) l (meaningFrom spot indent (drop n (bytesOf d p)) n) (pieces-end spot indent (bytesOf d p) n (pieces-lie reading (bytesOf d p) q)))
+  shown (Pieces n spot) q = rw (pieces-mean style (bytesOf d p) indent q)
+      (none-shown d (length (bytesOf d p)) (p .start) l (meaningFrom spot indent (drop n (bytesOf d p)) n) (pieces-end spot indent (bytesOf d p) n (pieces-lie style (bytesOf d p) q)))
 
-  pub plainly : shownBy d (delivered (meaning reading (bytesOf d p) indent) (p .start) l [] .answer) ≡ plainBy (startOf reading (bytesOf d p)) (bytesOf d p)
-  plainly = shown (startOf reading (bytesOf d p)) refl
+  pub plainly : shownBy d (delivered (meaning style (bytesOf d p) indent) (p .start) l [] .answer) ≡ plainBy (startOf style (bytesOf d p)) (bytesOf d p)
+  plainly = shown (startOf style (bytesOf d p)) refl
 
 module _ (d : List ℕ) (t : Token) where
   pub plain-over : 16777216 < length d → [] ≡ plainOf d t
   unfolding plainOf
   plain-over h = rw (over d t [] h)
 
-  module _ (x : Worded) (q : x ≡ wordsOf t) (h : length d ≤ 16777216) where
+  module _ (x : Source) (q : x ≡ sourceOf t) (h : length d ≤ 16777216) where
     pub plain-no-text : sound d (x .text) ≡ false → [] ≡ plainOf d t
     unfolding plainOf
     plain-no-text e = rw (no-text d t [] x (lineOf t) q refl h e)
@@ -107,8 +107,8 @@ module _ (d : List ℕ) (t : Token) where
     unfolding plainOf
     plain-no-indent e f = rw (no-indent d t [] x (lineOf t) q refl h e f)
 
-    pub plain-ruled : sound d (x .text) ≡ true → sound d (x .indent) ≡ true → plainBy (startOf (x .reading) (bytesOf d (x .text))) (bytesOf d (x .text)) ≡ plainOf d t
+    pub plain-ruled : sound d (x .text) ≡ true → sound d (x .indent) ≡ true → plainBy (startOf (x .style) (bytesOf d (x .text))) (bytesOf d (x .text)) ≡ plainOf d t
     unfolding plainOf
     plain-ruled e f =
         rw (ruled d t [] x (lineOf t) q refl h e f)
-        (sym (plainly d (x .text) e (x .reading) (bytesOf d (x .indent)) (lineOf t)))
+        (sym (plainly d (x .text) e (x .style) (bytesOf d (x .indent)) (lineOf t)))

@@ -29,9 +29,9 @@ use Rattle.unescape_pieces.specs.Meaning.{
   blockMeaning,
   meaning,
 }
-use Rattle.unescape_pieces.specs.Words.{wordsOf, sound}
-use Rattle.unescape_pieces.specs.declared.words.Reading.{Reading}
-use Rattle.unescape_pieces.specs.declared.words.Reading.the-variants.{AsIs, Entry, Block}
+use Rattle.unescape_pieces.specs.Source.{sourceOf, sound}
+use Rattle.unescape_pieces.specs.declared.source.Style.{Style}
+use Rattle.unescape_pieces.specs.declared.source.Style.the-variants.{AsIs, Entry, Block}
 use Rattle.unescape.specs.Unescape.{Unescaped, delivered, unescapeOf}
 use Rattle.unescape.specs.declared.Answer.{Answer}
 use Rattle.unescape.specs.declared.Answer.the-variants.{Plain, Written, Refused}
@@ -110,7 +110,7 @@ module _ (indent : List ℕ) where
 
 -- The meaning of a text, and a token's
 
-meaning-most : (r : Reading) (s indent : List ℕ) → AtMost (length s) (meaning r s indent)
+meaning-most : (r : Style) (s indent : List ℕ) → AtMost (length s) (meaning r s indent)
 unfolding meaning
 meaning-most AsIs s indent = tt
 meaning-most Entry s indent = entry-most s
@@ -138,13 +138,13 @@ delivered-kept k o (refused r) n l h = λ j q. absurd (omega arith)
 token-kept : (d : List ℕ) (t : Token) (o : List ℕ) → KeptIn (textSize t) o (unescapeOf d t o)
 unfolding unescapeOf
 token-kept d t o =
-    let w = wordsOf t in
+    let w = sourceOf t in
     let k = textSize t in
     let s = bytesOf d (w .text) in
     let i = bytesOf d (w .indent) in
-    let m = meaning (w .reading) s i in
+    let m = meaning (w .style) s i in
     let e = length-take k (drop (w .text .start) d) in
-    let f = raised (length s) k m (omega arith) (meaning-most (w .reading) s i) in
+    let f = raised (length s) k m (omega arith) (meaning-most (w .style) s i) in
     on-cond (KeptIn k o) (ltb 16777216 (length d))
     (λ _ j q. absurd (omega arith))
     (λ _. on-cond (KeptIn k o) (sound d (w .text) && sound d (w .indent))
@@ -158,5 +158,5 @@ pub enough : Enough
 enough d t o l p h e = (rw e at (token-kept d t o)) h refl
 
 pub met : Met
-unfolding isBreak countWhile startsWith within leadOf owes utf8 isEmpty linesIn laterLines joinedLines blockMeaning meaning wordsOf sound delivered unescapeOf
+unfolding isBreak countWhile startsWith within leadOf owes utf8 isEmpty linesIn laterLines joinedLines blockMeaning meaning sourceOf sound delivered unescapeOf
 met = refl

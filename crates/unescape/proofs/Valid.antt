@@ -35,7 +35,7 @@ use Rattle.unescape_pieces.specs.Meaning.{
   brace,
   closed,
   quoted,
-  bare,
+  allLiteral,
   inside,
   simplyQuoted,
   entryMeaning,
@@ -48,7 +48,7 @@ use Rattle.unescape_pieces.specs.Meaning.{
   blockMeaning,
   meaning,
 }
-use Rattle.unescape_pieces.specs.declared.words.Reading.the-variants.{AsIs, Entry, Block}
+use Rattle.unescape_pieces.specs.declared.source.Style.the-variants.{AsIs, Entry, Block}
 use Rattle.unescape_pieces.proofs.Escapes.{simple}
 use Rattle.unescape.specs.Claims.{ValidIn, Valid}
 
@@ -147,7 +147,7 @@ last-quote : (s : List ℕ) → simplyQuoted s ≡ true → getD s (length s - 1
 unfolding simplyQuoted
 last-quote s q =
     let k = and-right (eqb (getD s 0 0) 34) _ (and-right (leb 2 (length s)) _ q) in
-    eqb-true (getD s (length s - 1) 0) 34 (and-left _ (bare (inside s)) k)
+    eqb-true (getD s (length s - 1) 0) 34 (and-left _ (allLiteral (inside s)) k)
 
 -- the part between the quotes is what stands before the last one
 between : (r : List ℕ) → simplyQuoted (34 ∷ r) ≡ true → utf8 r ≡ true → utf8 (take (length r - 1) r) ≡ true

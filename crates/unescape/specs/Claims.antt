@@ -13,8 +13,8 @@ use Rattle.tokenizer.specs.Step.{noPart}
 use Rattle.tokenizer.specs.declared.token.Token.{Token}
 use Rattle.tokenizer.specs.declared.token.Token.the-variants.{MultilineValue}
 use Rattle.unescape_pieces.specs.Meaning.{Meaning, part, bytes, code, refused, meaning}
-use Rattle.unescape_pieces.specs.Words.{wordsOf}
-use Rattle.unescape_pieces.specs.declared.words.Reading.{Reading}
+use Rattle.unescape_pieces.specs.Source.{sourceOf}
+use Rattle.unescape_pieces.specs.declared.source.Style.{Style}
 use Rattle.unescape.specs.Unescape.{unescapeOf}
 use Rattle.unescape.specs.declared.Answer.the-variants.{Written, Refused}
 
@@ -26,11 +26,11 @@ ValidIn s (code a e) = Unit {0}
 ValidIn s (refused n) = Unit {0}
 
 abbrev pub Valid : Type 0
-Valid = (r : Reading) (s indent : List ℕ) → utf8 s ≡ true → utf8 indent ≡ true → ValidIn s (meaning r s indent)
+Valid = (r : Style) (s indent : List ℕ) → utf8 s ≡ true → utf8 indent ≡ true → ValidIn s (meaning r s indent)
 
 -- how long a token's text is; 0 where it has none
 abbrev pub textSize : Token → ℕ
-textSize t = wordsOf t .text .end - wordsOf t .text .start
+textSize t = sourceOf t .text .end - sourceOf t .text .start
 
 -- of every token, also one that no reading gives
 abbrev pub Shorter : Type 0

@@ -10,8 +10,8 @@ use Rattle.tokenizer.specs.Token.{lineOf}
 use Rattle.tokenizer.specs.Step.{bytesOf, noPart}
 use Rattle.tokenizer.specs.declared.token.Token.{Token}
 use Rattle.unescape_pieces.specs.Meaning.{Meaning, part, bytes, code, refused, meaning}
-use Rattle.unescape_pieces.specs.Words.{wordsOf, sound}
-use Rattle.unescape_pieces.specs.declared.words.Worded.{Worded}
+use Rattle.unescape_pieces.specs.Source.{sourceOf, sound}
+use Rattle.unescape_pieces.specs.declared.source.Source.{Source}
 use Rattle.unescape.specs.declared.Answer.{Answer}
 use Rattle.unescape.specs.declared.Answer.the-variants.{Plain, Written, Refused}
 
@@ -37,14 +37,14 @@ delivered (bytes w) n l o =
 delivered (code a e) n l o = keptBuffer (Refused invalidEscape l (record { start = n + a; end = n + e })) o
 delivered (refused r) n l o = keptBuffer (refusal r l) o
 
-abbrev pub wordsIn : List ℕ → Worded → Meaning
-wordsIn d w = meaning (w .reading) (bytesOf d (w .text)) (bytesOf d (w .indent))
+abbrev pub meaningIn : List ℕ → Source → Meaning
+meaningIn d w = meaning (w .style) (bytesOf d (w .text)) (bytesOf d (w .indent))
 
 -- a token of a document, unescaped
 unfoldable pub unescapeOf : List ℕ → Token → List ℕ → Unescaped
 unescapeOf d t o =
-    let w = wordsOf t in
-    let u = delivered (wordsIn d w) (w .text .start) (lineOf t) o in
+    let w = sourceOf t in
+    let u = delivered (meaningIn d w) (w .text .start) (lineOf t) o in
     cond (ltb maxDocument (length d)) (keptBuffer (refusal tooLong 0) o)
     (cond (sound d (w .text) && sound d (w .indent)) u (keptBuffer (refusal unfitToken (lineOf t)) o))
 

@@ -4,8 +4,8 @@ use Prim.Native.Nat.{ℕ, _-_, _≤_}
 use mathlib.Core.List.{List, [], _++_}
 use lib.ListN.{length, take, drop}
 use Rattle.unescape_pieces.specs.Meaning.{Meaning, part, bytes, code, refused}
-use Rattle.unescape_pieces.specs.declared.words.Start.{Start}
-use Rattle.unescape_pieces.specs.declared.words.Start.the-variants.{Plain, Pieces}
+use Rattle.unescape_pieces.specs.declared.source.Start.{Start}
+use Rattle.unescape_pieces.specs.declared.source.Start.the-variants.{Plain, Pieces}
 use Rattle.unescape.specs.declared.walk.Measured.{Measured}
 use Rattle.unescape.specs.declared.walk.Measured.the-variants.{Length}
 use Rattle.unescape.specs.declared.walk.Measured.the-variants.{Code as CodeAt, Refused as RefusedBy}
@@ -23,15 +23,15 @@ measuredOf (code a e) = CodeAt a e
 measuredOf (refused n) = RefusedBy n
 
 -- a written text that fits n bytes
-abbrev pub Fits : Meaning → ℕ → Type 0
-Fits (part a e) n = ⊥
-Fits (bytes w) n = length w ≤ n
-Fits (code a e) n = ⊥
-Fits (refused r) n = ⊥
+abbrev pub WrittenFits : Meaning → ℕ → Type 0
+WrittenFits (part a e) n = ⊥
+WrittenFits (bytes w) n = length w ≤ n
+WrittenFits (code a e) n = ⊥
+WrittenFits (refused r) n = ⊥
 
 -- a buffer after it
-abbrev pub filled : Meaning → List ℕ → List ℕ
-filled (part a e) o = o
-filled (bytes w) o = w ++ drop (length w) o
-filled (code a e) o = o
-filled (refused n) o = o
+abbrev pub bufferAfter : Meaning → List ℕ → List ℕ
+bufferAfter (part a e) o = o
+bufferAfter (bytes w) o = w ++ drop (length w) o
+bufferAfter (code a e) o = o
+bufferAfter (refused n) o = o

@@ -6,11 +6,11 @@ use crate::walk::write;
 use text::Part;
 use tokenizer::State;
 use tokenizer::Token;
-use unescape_pieces::Reading;
 use unescape_pieces::Start;
+use unescape_pieces::Style;
 use unescape_pieces::is_sound;
+use unescape_pieces::source_of;
 use unescape_pieces::start_of;
-use unescape_pieces::words_of;
 ghost use mathlib.Core.Path.{_≡_};
 ghost use Prim.Native.Nat.{_+_, _≤_};
 ghost use lib.ListN.{length};
@@ -29,7 +29,7 @@ fn refuse(number: usize, line: usize) -> Answer
 
 // A text that starts at `from`, as it is read. It is measured before it is written, so that a refusal leaves the buffer alone.
 fn deliver(
-    reading: Reading,
+    style: Style,
     s: &[u8],
     indent: &[u8],
     from: usize,
@@ -37,10 +37,10 @@ fn deliver(
     out: &mut [u8],
 ) -> Answer
     requires { ⌜ from + length (now s) ≤ maxDocument ⌝ }
-    ensures { λ r. ⌜ r ≡ delivered (meaning reading (now (s .entry)) (now (indent .entry))) from line (now (out .entry)) .answer ⌝ }
-    ensures { λ _. ⌜ now (out .exit) ≡ delivered (meaning reading (now (s .entry)) (now (indent .entry))) from line (now (out .entry)) .buffer ⌝ }
+    ensures { λ r. ⌜ r ≡ delivered (meaning style (now (s .entry)) (now (indent .entry))) from line (now (out .entry)) .answer ⌝ }
+    ensures { λ _. ⌜ now (out .exit) ≡ delivered (meaning style (now (s .entry)) (now (indent .entry))) from line (now (out .entry)) .buffer ⌝ }
 {
-    match start_of(reading, s) {
+    match start_of(style, s) {
         Start::Plain(a, e) => Answer::Plain(Part {
             start: from + a,
             end: from + e,
@@ -75,9 +75,9 @@ pub fn unescape(t: Token, doc: &[u8], out: &mut [u8]) -> Answer
     if State::MAX_DOCUMENT < doc.len() {
         return refuse(12, 0);
     }
-    let w = words_of(t);
+    let w = source_of(t);
     let line = t.line_number();
-    let reading = w.reading;
+    let style = w.style;
     let text = w.text;
     let indent = w.indent;
     if !is_sound(doc, text) {
@@ -91,7 +91,7 @@ pub fn unescape(t: Token, doc: &[u8], out: &mut [u8]) -> Answer
     let indent_from = indent.start;
     let indent_to = indent.end;
     deliver(
-        reading,
+        style,
         &doc[from..to],
         &doc[indent_from..indent_to],
         from,
@@ -101,10 +101,10 @@ pub fn unescape(t: Token, doc: &[u8], out: &mut [u8]) -> Answer
 }
 
 // The part of a text that is plain, else the empty one.
-fn plain_part<'a>(reading: Reading, s: &'a [u8]) -> &'a [u8]
-    ensures { λ r. ⌜ now r ≡ plainBy (startOf reading (now (s .entry))) (now (s .entry)) ⌝ }
+fn plain_part<'a>(style: Style, s: &'a [u8]) -> &'a [u8]
+    ensures { λ r. ⌜ now r ≡ plainBy (startOf style (now (s .entry))) (now (s .entry)) ⌝ }
 {
-    match start_of(reading, s) {
+    match start_of(style, s) {
         Start::Plain(a, e) => &s[a..e],
         Start::Pieces(_, _) => &s[..0],
     }
@@ -117,8 +117,8 @@ pub fn plain<'a>(t: Token, doc: &'a [u8]) -> &'a [u8]
     if State::MAX_DOCUMENT < doc.len() {
         return &doc[..0];
     }
-    let w = words_of(t);
-    let reading = w.reading;
+    let w = source_of(t);
+    let style = w.style;
     let text = w.text;
     let indent = w.indent;
     if !is_sound(doc, text) {
@@ -129,5 +129,5 @@ pub fn plain<'a>(t: Token, doc: &'a [u8]) -> &'a [u8]
     }
     let from = text.start;
     let to = text.end;
-    plain_part(reading, &doc[from..to])
+    plain_part(style, &doc[from..to])
 }

@@ -9,7 +9,7 @@ ghost use lib.ListN.{length, drop};
 ghost use Rattle.text.specs.Numbers.{maxDocument};
 ghost use Rattle.text.specs.Scalar.{encodingOf};
 ghost use Rattle.unescape_pieces.specs.Pieces.{meaningFrom};
-ghost use Rattle.unescape.specs.Walk.{measuredOf, Fits, filled};
+ghost use Rattle.unescape.specs.Walk.{measuredOf, WrittenFits, bufferAfter};
 
 // The length of the text that a meaning writes, or its refusal: the part of an invalid code, or a number.
 pub enum Measured {
@@ -77,8 +77,8 @@ fn put(n: u32, out: &mut [u8]) -> usize
 // The text from the cursor on, put over the first bytes of out.
 pub(crate) fn write(start: usize, first: Spot, indent: &[u8], s: &[u8], out: &mut [u8])
     requires { ⌜ start ≤ length (now s) ⌝ }
-    requires { ⌜ Fits (meaningFrom first (now indent) (drop start (now s)) start) (length (now out)) ⌝ }
-    ensures { λ _. ⌜ now (out .exit) ≡ filled (meaningFrom first (now (indent .entry)) (drop start (now (s .entry))) start) (now (out .entry)) ⌝ }
+    requires { ⌜ WrittenFits (meaningFrom first (now indent) (drop start (now s)) start) (length (now out)) ⌝ }
+    ensures { λ _. ⌜ now (out .exit) ≡ bufferAfter (meaningFrom first (now (indent .entry)) (drop start (now (s .entry))) start) (now (out .entry)) ⌝ }
 {
     let mut at = start;
     let mut spot = first;

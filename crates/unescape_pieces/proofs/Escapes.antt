@@ -14,7 +14,7 @@ use Rattle.text.specs.Scalar.{isScalar, encoding}
 use Rattle.text.proofs.Cases.{by-bool, on-cond, clash}
 use Rattle.unescape_pieces.specs.Codes.{codeOf, simpleOf}
 use Rattle.unescape_pieces.specs.Meaning.{Meaning, part, bytes, code, refused, written, plain, brace, quoted}
-use Rattle.unescape_pieces.specs.Pieces.{isBare, inBrace}
+use Rattle.unescape_pieces.specs.Pieces.{isLiteral, inBrace}
 
 pub written-nil : (m : Meaning) → written [] m ≡ m
 written-nil (part a e) = refl
@@ -50,7 +50,7 @@ simple b =
 
 -- A run
 
-pub bare-byte : (b : ℕ) (r : List ℕ) (n : ℕ) → isBare b ≡ true → quoted (b ∷ r) plain n ≡ written (b ∷ []) (quoted r plain (n + 1))
+pub bare-byte : (b : ℕ) (r : List ℕ) (n : ℕ) → isLiteral b ≡ true → quoted (b ∷ r) plain n ≡ written (b ∷ []) (quoted r plain (n + 1))
 unfolding quoted
 bare-byte b r n e = let k = neither (eqb b 34) (eqb b 92) e in rw (k .0, k .1)
 
@@ -61,12 +61,12 @@ Ran s n k = quoted s plain n ≡ written (take k s) (quoted (drop k s) plain (n 
 ran-none : (s : List ℕ) (n : ℕ) → Ran s n 0
 ran-none s n = rw add-zero (sym (written-nil (quoted s plain n)))
 
-pub run : (s : List ℕ) (n : ℕ) → Ran s n (countWhile isBare s)
+pub run : (s : List ℕ) (n : ℕ) → Ran s n (countWhile isLiteral s)
 unfolding countWhile
 run [] n = ran-none [] n
 run (b ∷ r) n =
-    by-bool (isBare b)
-    (λ e. let k = countWhile isBare r in
+    by-bool (isLiteral b)
+    (λ e. let k = countWhile isLiteral r in
     let q : n + 1 + k ≡ n + suc k = omega arith in
     rw e (bare-byte b r n e ∙ ap (written (b ∷ [])) (run r (n + 1)) ∙ written-twice (b ∷ []) (take k r) (quoted (drop k r) plain (n + 1 + k)) ∙ rw q))
     (λ e. rw e (ran-none (b ∷ r) n))

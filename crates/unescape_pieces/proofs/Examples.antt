@@ -15,7 +15,7 @@ use Rattle.unescape_pieces.specs.Meaning.{
   code,
   refused,
   quoted,
-  bare,
+  allLiteral,
   simplyQuoted,
   entryMeaning,
   isEmpty,
@@ -27,7 +27,7 @@ use Rattle.unescape_pieces.specs.Meaning.{
 
 -- what computing a meaning unfolds
 rules : List ℕ → Meaning
-unfolding isBreak countWhile startsWith isScalar encoding within leadOf followed charLen digitOf digitsFrom digits afterPlus codeOf simpleOf quoted bare simplyQuoted entryMeaning isEmpty linesIn laterLines joinedLines blockMeaning
+unfolding isBreak countWhile startsWith isScalar encoding within leadOf followed charLen digitOf digitsFrom digits afterPlus codeOf simpleOf quoted allLiteral simplyQuoted entryMeaning isEmpty linesIn laterLines joinedLines blockMeaning
 rules s = entryMeaning s
 
 -- `"\{0010FFFF}"` is the last scalar value

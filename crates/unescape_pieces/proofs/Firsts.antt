@@ -15,10 +15,10 @@ use Rattle.text.specs.declared.bytes.First.the-variants.{Byte, Nothing}
 use Rattle.text.proofs.Front.{empty}
 use Rattle.unescape_pieces.specs.Codes.{codeOf, simpleOf}
 use Rattle.unescape_pieces.specs.Meaning.{isEmpty}
-use Rattle.unescape_pieces.specs.Pieces.{isBare, inBrace, stopped, passing, braceNext, escapeNext, quotedNext, entryStart}
+use Rattle.unescape_pieces.specs.Pieces.{isLiteral, inBrace, stopped, passing, braceNext, escapeNext, quotedNext, entryStart}
 use Rattle.unescape_pieces.specs.declared.pieces.Spot.the-variants.{Quotes}
 use Rattle.unescape_pieces.specs.declared.pieces.Piece.the-variants.{Run, Scalar, End, Code, Refused}
-use Rattle.unescape_pieces.specs.declared.words.Start.the-variants.{Plain, Pieces}
+use Rattle.unescape_pieces.specs.declared.source.Start.the-variants.{Plain, Pieces}
 
 -- No first byte
 
@@ -58,9 +58,9 @@ module _ (s : List ℕ) (b : ℕ) (f : firstOf s ≡ Byte b) where
   unfolding quotedNext
   quoted-escape e = by-first (λ s. quotedNext s ≡ escapeNext (drop 1 s)) s b f (rw e)
 
-  pub quoted-run : (b ≡ 92 → ⊥) → (b ≡ 34 → ⊥) → quotedNext s ≡ passing (Run 0) (countWhile isBare s) Quotes
+  pub quoted-run : (b ≡ 92 → ⊥) → (b ≡ 34 → ⊥) → quotedNext s ≡ passing (Run 0) (countWhile isLiteral s) Quotes
   unfolding quotedNext
-  quoted-run n m = by-first (λ s. quotedNext s ≡ passing (Run 0) (countWhile isBare s) Quotes) s b f (rw (ne-eqb b 34 m, ne-eqb b 92 n))
+  quoted-run n m = by-first (λ s. quotedNext s ≡ passing (Run 0) (countWhile isLiteral s) Quotes) s b f (rw (ne-eqb b 34 m, ne-eqb b 92 n))
 
   pub quoted-end : b ≡ 34 → length s < 2 → quotedNext s ≡ stopped End
   unfolding quotedNext
@@ -87,17 +87,17 @@ module _ (s : List ℕ) (b : ℕ) (f : firstOf s ≡ Byte b) where
   entry-bare n = by-first (λ s. entryStart s ≡ Plain 0 (length s)) s b f (rw (ne-eqb b 34 n))
 
   -- n bytes after the quote stand before the next `"` or `\`
-  pub entry-pieces : b ≡ 34 → (n : ℕ) → n ≡ countWhile isBare (drop 1 s) → (1 + n + 1 ≡ length s → ⊥) → entryStart s ≡ Pieces 1 Quotes
+  pub entry-pieces : b ≡ 34 → (n : ℕ) → n ≡ countWhile isLiteral (drop 1 s) → (1 + n + 1 ≡ length s → ⊥) → entryStart s ≡ Pieces 1 Quotes
   unfolding entryStart
   entry-pieces e n q =
-      by-first (λ s. n ≡ countWhile isBare (drop 1 s) → (1 + n + 1 ≡ length s → ⊥) → entryStart s ≡ Pieces 1 Quotes) s b f
+      by-first (λ s. n ≡ countWhile isLiteral (drop 1 s) → (1 + n + 1 ≡ length s → ⊥) → entryStart s ≡ Pieces 1 Quotes) s b f
       (λ q h. rw (e, ← q, ne-eqb (n + 1) (length (drop 1 s)) (λ k. h (omega arith)))) q
 
-  pub entry-last : b ≡ 34 → (n : ℕ) → n ≡ countWhile isBare (drop 1 s) → 1 + n + 1 ≡ length s
+  pub entry-last : b ≡ 34 → (n : ℕ) → n ≡ countWhile isLiteral (drop 1 s) → 1 + n + 1 ≡ length s
       → entryStart s ≡ cond (eqb (getD s (1 + n) 0) 34) (Plain 1 (1 + n)) (Pieces 1 Quotes)
   unfolding entryStart
   entry-last e n q =
-      by-first (λ s. n ≡ countWhile isBare (drop 1 s) → 1 + n + 1 ≡ length s → entryStart s ≡ cond (eqb (getD s (1 + n) 0) 34) (Plain 1 (1 + n)) (Pieces 1 Quotes)) s b f
+      by-first (λ s. n ≡ countWhile isLiteral (drop 1 s) → 1 + n + 1 ≡ length s → entryStart s ≡ cond (eqb (getD s (1 + n) 0) 34) (Plain 1 (1 + n)) (Pieces 1 Quotes)) s b f
       (λ q h. let t : 1 + n ≡ suc n = omega arith in let u : n + 1 ≡ suc n = omega arith in rw (e, ← q, eq-eqb (n + 1) (length (drop 1 s)) (omega arith), t, u)) q
 
 -- What ends a brace, n bytes after its start

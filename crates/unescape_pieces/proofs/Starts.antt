@@ -10,12 +10,12 @@ use borrow.Author.Tests.{eqb-true, ne-eqb, le-leb}
 use Rattle.text.specs.Bytes.{countWhile, lineEnd}
 use Rattle.text.proofs.Cases.{by-bool, on-cond, and-left}
 use Rattle.text.proofs.Scan.{count-le}
-use Rattle.unescape_pieces.specs.Meaning.{Meaning, part, bare, simplyQuoted, entryMeaning, blockMeaning, meaning}
-use Rattle.unescape_pieces.specs.Pieces.{isBare, entryStart, blockStart, startOf, begun, meaningFrom}
-use Rattle.unescape_pieces.specs.declared.words.Reading.{Reading}
-use Rattle.unescape_pieces.specs.declared.words.Reading.the-variants.{AsIs, Entry, Block}
-use Rattle.unescape_pieces.specs.declared.words.Start.{Start}
-use Rattle.unescape_pieces.specs.declared.words.Start.the-variants.{Plain, Pieces}
+use Rattle.unescape_pieces.specs.Meaning.{Meaning, part, allLiteral, simplyQuoted, entryMeaning, blockMeaning, meaning}
+use Rattle.unescape_pieces.specs.Pieces.{isLiteral, entryStart, blockStart, startOf, begun, meaningFrom}
+use Rattle.unescape_pieces.specs.declared.source.Style.{Style}
+use Rattle.unescape_pieces.specs.declared.source.Style.the-variants.{AsIs, Entry, Block}
+use Rattle.unescape_pieces.specs.declared.source.Start.{Start}
+use Rattle.unescape_pieces.specs.declared.source.Start.the-variants.{Plain, Pieces}
 use Rattle.unescape_pieces.specs.declared.pieces.Spot.{Spot}
 use Rattle.unescape_pieces.specs.declared.pieces.Spot.the-variants.{Quotes}
 use Rattle.unescape_pieces.proofs.Escapes.{neither}
@@ -25,36 +25,36 @@ use Rattle.unescape_pieces.proofs.Escapes.{neither}
 abbrev Closes : List ℕ → ℕ → Bool
 Closes r n = eqb (n + 1) (length r) && eqb (getD r n 0) 34
 
-closes : (c : ℕ) (r : List ℕ) → eqb (getD (c ∷ r) (length r) 0) 34 && bare (take (length r) (c ∷ r)) ≡ Closes (c ∷ r) (countWhile isBare (c ∷ r))
-unfolding bare countWhile
+closes : (c : ℕ) (r : List ℕ) → eqb (getD (c ∷ r) (length r) 0) 34 && allLiteral (take (length r) (c ∷ r)) ≡ Closes (c ∷ r) (countWhile isLiteral (c ∷ r))
+unfolding allLiteral countWhile
 closes c [] =
-    by-bool (isBare c)
+    by-bool (isLiteral c)
     (λ e. rw (e, neither (eqb c 34) (eqb c 92) e .0))
     (λ e. rw (e, and-true))
 closes c (d ∷ r) =
-    by-bool (isBare c)
-    (λ e. let k = countWhile isBare (d ∷ r) in
+    by-bool (isLiteral c)
+    (λ e. let k = countWhile isLiteral (d ∷ r) in
     let z : suc k + 1 ≡ suc (k + 1) = omega arith in
     rw (e, z, eqb·suc-suc) (closes d r))
     (λ e. rw (e, and-false, ne-eqb (0 + 1) (suc (suc (length r))) (λ z. omega arith)))
 
-simply : (r : List ℕ) → simplyQuoted (34 ∷ r) ≡ Closes r (countWhile isBare r)
+simply : (r : List ℕ) → simplyQuoted (34 ∷ r) ≡ Closes r (countWhile isLiteral r)
 unfolding simplyQuoted
 simply [] = none
   where
-    none : false ≡ Closes [] (countWhile isBare [])
-    none = sym (ap (λ t. t && eqb (getD [] (countWhile isBare []) 0) 34) (ne-eqb (countWhile isBare [] + 1) 0 (λ z. omega arith)))
+    none : false ≡ Closes [] (countWhile isLiteral [])
+    none = sym (ap (λ t. t && eqb (getD [] (countWhile isLiteral []) 0) 34) (ne-eqb (countWhile isLiteral [] + 1) 0 (λ z. omega arith)))
 simply (c ∷ r) =
     let y : length (34 ∷ c ∷ r) - 1 ≡ suc (length r) = omega arith in
     let z : length (34 ∷ c ∷ r) - 2 ≡ length r = omega arith in
-    rw (le-leb 2 (length (34 ∷ c ∷ r)) (omega arith)) (ap₂ (λ i j. eqb (getD (34 ∷ c ∷ r) i 0) 34 && bare (take j (c ∷ r))) y z ∙ closes c r)
+    rw (le-leb 2 (length (34 ∷ c ∷ r)) (omega arith)) (ap₂ (λ i j. eqb (getD (34 ∷ c ∷ r) i 0) 34 && allLiteral (take j (c ∷ r))) y z ∙ closes c r)
 
 entry-begun : (indent s : List ℕ) → entryMeaning s ≡ begun (entryStart s) indent s
 unfolding entryMeaning entryStart meaningFrom
 entry-begun indent [] = refl
 entry-begun indent (b ∷ r) =
     by-bool (eqb b 34)
-    (λ e. let n = countWhile isBare r in
+    (λ e. let n = countWhile isLiteral r in
     by-bool (Closes r n)
     (λ t. rw (eqb-true b 34 e, simply r, t, ← eqb-true (n + 1) (length r) (and-left (eqb (n + 1) (length r)) _ t)))
     (λ t. rw (eqb-true b 34 e, simply r, t)))
@@ -64,7 +64,7 @@ block-begun : (indent s : List ℕ) → blockMeaning indent s ≡ begun (blockSt
 unfolding blockMeaning blockStart meaningFrom
 block-begun indent s = by-bool (eqb (lineEnd s) (length s)) (λ e. rw e) (λ e. rw e)
 
-pub begun-law : (reading : Reading) (s indent : List ℕ) → meaning reading s indent ≡ begun (startOf reading s) indent s
+pub begun-law : (style : Style) (s indent : List ℕ) → meaning style s indent ≡ begun (startOf style s) indent s
 unfolding meaning startOf
 begun-law AsIs s indent = refl
 begun-law Entry s indent = entry-begun indent s
@@ -79,15 +79,15 @@ entry-lies : (s : List ℕ) → Lies (entryStart s) s
 unfolding entryStart
 entry-lies [] = (omega arith, omega arith)
 entry-lies (b ∷ r) =
-    let n = countWhile isBare r in
-    let k = count-le isBare r in
+    let n = countWhile isLiteral r in
+    let k = count-le isLiteral r in
     on-cond (λ x. Lies x (b ∷ r)) (eqb b 34)
     (λ e. on-cond (λ x. Lies x (b ∷ r)) (Closes r n)
     (λ t. (omega arith, omega (arith, eqb-true (n + 1) (length r) (and-left (eqb (n + 1) (length r)) _ t))))
     (λ t. omega arith))
     (λ e. (omega arith, omega arith))
 
-pub lies : (reading : Reading) (s : List ℕ) → Lies (startOf reading s) s
+pub lies : (style : Style) (s : List ℕ) → Lies (startOf style s) s
 unfolding startOf blockStart
 lies AsIs s = (omega arith, omega arith)
 lies Entry s = entry-lies s
@@ -95,15 +95,15 @@ lies Block s = on-cond (λ x. Lies x s) (eqb (lineEnd s) (length s)) (λ e. (ome
 
 -- The same by what it begins with
 
-module _ (reading : Reading) (s : List ℕ) where
-  pub part-means : {a e : ℕ} (indent : List ℕ) → startOf reading s ≡ Plain a e → meaning reading s indent ≡ part a e
-  part-means indent q = begun-law reading s indent ∙ ap (λ x. begun x indent s) q
+module _ (style : Style) (s : List ℕ) where
+  pub part-means : {a e : ℕ} (indent : List ℕ) → startOf style s ≡ Plain a e → meaning style s indent ≡ part a e
+  part-means indent q = begun-law style s indent ∙ ap (λ x. begun x indent s) q
 
-  pub part-lies : {a e : ℕ} → startOf reading s ≡ Plain a e → (a ≤ e) × (e ≤ length s)
-  part-lies q = subst (λ x. Lies x s) q (lies reading s)
+  pub part-lies : {a e : ℕ} → startOf style s ≡ Plain a e → (a ≤ e) × (e ≤ length s)
+  part-lies q = subst (λ x. Lies x s) q (lies style s)
 
-  pub pieces-mean : {n : ℕ} {spot : Spot} (indent : List ℕ) → startOf reading s ≡ Pieces n spot → meaning reading s indent ≡ meaningFrom spot indent (drop n s) n
-  pieces-mean indent q = begun-law reading s indent ∙ ap (λ x. begun x indent s) q
+  pub pieces-mean : {n : ℕ} {spot : Spot} (indent : List ℕ) → startOf style s ≡ Pieces n spot → meaning style s indent ≡ meaningFrom spot indent (drop n s) n
+  pieces-mean indent q = begun-law style s indent ∙ ap (λ x. begun x indent s) q
 
-  pub pieces-lie : {n : ℕ} {spot : Spot} → startOf reading s ≡ Pieces n spot → n ≤ length s
-  pieces-lie q = subst (λ x. Lies x s) q (lies reading s)
+  pub pieces-lie : {n : ℕ} {spot : Spot} → startOf style s ≡ Pieces n spot → n ≤ length s
+  pieces-lie q = subst (λ x. Lies x s) q (lies style s)

@@ -20,7 +20,7 @@ use Rattle.text.proofs.Scan.{count-le}
 use Rattle.unescape_pieces.specs.Codes.{codeOf, simpleOf}
 use Rattle.unescape_pieces.specs.Meaning.{Meaning, bytes, code, refused, written, plain, escape, brace, closed, quoted, isEmpty, linesIn, laterLines}
 use Rattle.unescape_pieces.specs.Pieces.{
-  isBare,
+  isLiteral,
   inBrace,
   stopped,
   braced,
@@ -93,7 +93,7 @@ module _ (indent : List ℕ) where
   closed-law b [] n = refl
   closed-law b (c ∷ r) n = refl
 
-  run-law : (s : List ℕ) (n : ℕ) → quoted s plain n ≡ after (record { piece = Run 0; pass = countWhile isBare s; spot = Quotes }) s n
+  run-law : (s : List ℕ) (n : ℕ) → quoted s plain n ≡ after (record { piece = Run 0; pass = countWhile isLiteral s; spot = Quotes }) s n
   unfolding meaningFrom
   run-law s n = run s n
 
@@ -165,7 +165,7 @@ escape-steps b (c ∷ r) =
     (λ f. omega (arith, charLen-le (c ∷ r)))
     (λ f. (omega arith, omega arith, omega arith)))
 
-some-bare : (b : ℕ) (r : List ℕ) → eqb b 34 ≡ false → eqb b 92 ≡ false → 0 < countWhile isBare (b ∷ r)
+some-bare : (b : ℕ) (r : List ℕ) → eqb b 34 ≡ false → eqb b 92 ≡ false → 0 < countWhile isLiteral (b ∷ r)
 unfolding countWhile
 some-bare b r e f = rw (e, f) (omega arith)
 
@@ -177,7 +177,7 @@ quoted-steps (b ∷ r) =
     (λ e. on-cond (Stepped Quotes (b ∷ r)) (isEmpty r) (λ _. tt) (λ _. tt))
     (λ e. on-cond (Stepped Quotes (b ∷ r)) (eqb b 92)
     (λ f. escape-steps b r)
-    (λ f. let k = count-le isBare (b ∷ r) in let p = some-bare b r e f in (omega arith, k, omega arith)))
+    (λ f. let k = count-le isLiteral (b ∷ r) in let p = some-bare b r e f in (omega arith, k, omega arith)))
 
 skip-le : (later : Bool) (indent l : List ℕ) → skipped later indent l ≤ length l
 skip-le later indent l =

@@ -1,4 +1,4 @@
 pub mod Codes
 pub mod Meaning
-pub mod Words
+pub mod Source
 pub mod Pieces

@@ -11,8 +11,8 @@ use Rattle.text.specs.Utf8.{charLen}
 use Rattle.text.specs.Scalar.{isScalar, encoding}
 use Rattle.text.specs.Numbers.{escapeAtEnd, extraCharacters, unclosedQuotes}
 use Rattle.unescape_pieces.specs.Codes.{codeOf, simpleOf}
-use Rattle.unescape_pieces.specs.declared.words.Reading.{Reading}
-use Rattle.unescape_pieces.specs.declared.words.Reading.the-variants.{AsIs, Entry, Block}
+use Rattle.unescape_pieces.specs.declared.source.Style.{Style}
+use Rattle.unescape_pieces.specs.declared.source.Style.the-variants.{AsIs, Entry, Block}
 
 -- a part of the text, the bytes that are written, an invalid escape code with the part that is shown, or a refusal 9, 10 or 11
 pub data Meaning : Type 0 where
@@ -69,9 +69,9 @@ quoted (b ∷ r) (brace s h) n =
     cond (eqb b (byte "}")) (cond (isScalar (codeOf h)) c (code s (throughBrace n))) (cond (eqb b (byte "\"")) (code s (beforeStop n)) m)
 
 -- no `"` and no `\` among the bytes
-unfoldable pub bare : List ℕ → Bool
-bare [] = true
-bare (b ∷ r) = let t = bare r in not (eqb b (byte "\"") || eqb b (byte "\\")) && t
+unfoldable pub allLiteral : List ℕ → Bool
+allLiteral [] = true
+allLiteral (b ∷ r) = let t = allLiteral r in not (eqb b (byte "\"") || eqb b (byte "\\")) && t
 
 -- the bytes between the first and the last
 abbrev pub inside : List ℕ → List ℕ
@@ -79,7 +79,7 @@ inside s = take (length s - 2) (drop 1 s)
 
 -- two or more bytes, quoted at both ends, with no `"` or `\` between
 unfoldable pub simplyQuoted : List ℕ → Bool
-simplyQuoted s = leb 2 (length s) && (eqb (getD s 0 0) (byte "\"") && (eqb (getD s (length s - 1) 0) (byte "\"") && bare (inside s)))
+simplyQuoted s = leb 2 (length s) && (eqb (getD s 0 0) (byte "\"") && (eqb (getD s (length s - 1) 0) (byte "\"") && allLiteral (inside s)))
 
 -- a key or a value
 unfoldable pub entryMeaning : List ℕ → Meaning
@@ -127,7 +127,7 @@ blockMeaning indent s =
     cond (eqb (countWhile notBreak s) (length s)) (part 0 (length s)) w
 
 -- a text as its kind is read
-unfoldable pub meaning : Reading → List ℕ → List ℕ → Meaning
+unfoldable pub meaning : Style → List ℕ → List ℕ → Meaning
 meaning AsIs s i = part 0 (length s)
 meaning Entry s i = entryMeaning s
 meaning Block s i = blockMeaning i s

@@ -18,18 +18,18 @@ use Rattle.unescape_pieces.specs.declared.pieces.Spot.the-variants.{Quot
 use Rattle.unescape_pieces.specs.declared.pieces.Piece.{Piece}
 use Rattle.unescape_pieces.specs.declared.pieces.Piece.the-variants.{Run, Scalar, End, Code, Refused}
 use Rattle.unescape_pieces.specs.declared.pieces.Next.{Next}
-use Rattle.unescape_pieces.specs.declared.words.Reading.{Reading}
-use Rattle.unescape_pieces.specs.declared.words.Reading.the-variants.{AsIs, Entry, Block}
-use Rattle.unescape_pieces.specs.declared.words.Start.{Start}
-use Rattle.unescape_pieces.specs.declared.words.Start.the-variants.{Plain, Pieces}
+use Rattle.unescape_pieces.specs.declared.source.Style.{Style}
+use Rattle.unescape_pieces.specs.declared.source.Style.the-variants.{AsIs, Entry, Block}
+use Rattle.unescape_pieces.specs.declared.source.Start.{Start}
+use Rattle.unescape_pieces.specs.declared.source.Start.the-variants.{Plain, Pieces}
 
 -- neither `"` nor the byte c
 abbrev pub isBefore : ℕ → ℕ → Bool
 isBefore c b = not (eqb b (byte "\"") || eqb b c)
 
 -- a bare byte is neither `"` nor `\`
-abbrev pub isBare : ℕ → Bool
-isBare b = isBefore (byte "\\") b
+abbrev pub isLiteral : ℕ → Bool
+isLiteral b = isBefore (byte "\\") b
 
 -- a brace stops at `}` or `"`
 abbrev pub inBrace : ℕ → Bool
@@ -62,7 +62,7 @@ unfoldable pub quotedNext : List ℕ → Next
 quotedNext [] = stopped (Refused unclosedQuotes)
 quotedNext (b ∷ r) =
     cond (eqb b (byte "\"")) (cond (isEmpty r) (stopped End) (stopped (Refused extraCharacters)))
-    (cond (eqb b (byte "\\")) (escapeNext r) (passing (Run 0) (countWhile isBare (b ∷ r)) Quotes))
+    (cond (eqb b (byte "\\")) (escapeNext r) (passing (Run 0) (countWhile isLiteral (b ∷ r)) Quotes))
 
 -- a line of a multiline value
 abbrev pub skipped : Bool → List ℕ → List ℕ → ℕ
@@ -106,7 +106,7 @@ meaningFrom Break indent s n = bytes (laterLines indent (linesAfter s))
 unfoldable pub entryStart : List ℕ → Start
 entryStart [] = Plain 0 0
 entryStart (b ∷ r) =
-    let n = countWhile isBare r in
+    let n = countWhile isLiteral r in
     cond (eqb b (byte "\""))
     (cond (eqb (n + 1) (length r) && eqb (getD r n 0) (byte "\"")) (Plain 1 (n + 1)) (Pieces 1 Quotes))
     (Plain 0 (length (b ∷ r)))
@@ -114,7 +114,7 @@ entryStart (b ∷ r) =
 unfoldable pub blockStart : List ℕ → Start
 blockStart s = cond (eqb (lineEnd s) (length s)) (Plain 0 (length s)) (Pieces 0 FirstLine)
 
-unfoldable pub startOf : Reading → List ℕ → Start
+unfoldable pub startOf : Style → List ℕ → Start
 startOf AsIs s = Plain 0 (length s)
 startOf Entry s = entryStart s
 startOf Block s = blockStart s

@@ -30,7 +30,9 @@ begun c = wrote header 0 _ (c .put-text .ensures .0) (c .put-text .ensures .1)
 onward : (c : tie.Else2 Inv-loop μ-loop)
     → let l = c .before .before .before .before in
     isEnd (stepOf (l .before .before .before .before .before .before .before .before .before .before .args .doc .now) (l .loop .state) .answer) ≡ false
-onward c = told _ _ (c .before .before .before .step .ensures .0) (c .before .is-end .ensures) (c .if2 .left)
+onward c =
+    let step = c .before .before .before .step in
+    told _ _ (step .ensures .0) (c .before .is-end .ensures) (c .if2 .left)
 
 slice-aggregate-put-text : tie.Need-slice-aggregate-put-text Inv-loop μ-loop
 slice-aggregate-put-text c = search needs
@@ -71,13 +73,16 @@ same-length-2 c =
 
 returns-2 : tie.Need-returns-2 Inv-loop μ-loop
 returns-2 c =
+    let step = c .before .before .before .step in
     let l = c .before .before .before .before in
     let h = begun (l .before .before .before .before .before) in
-    let e = told _ _ (c .before .before .before .step .ensures .0) (c .before .is-end .ensures) (c .if2 .taken) in
+    let e = told _ _ (step .ensures .0) (c .before .is-end .ensures) (c .if2 .taken) in
     listed _ (l .before .before .if1 .left) (both h (ended _ _ _ (l .loop .inv) e))
 
 put-answer-requires : tie.Need-put-answer-requires Inv-loop μ-loop
-put-answer-requires c κs = row-fits _ _ _ (c .before .before .before .before .before .loop .inv) (onward (c .before))
+put-answer-requires c κs =
+    let loop-here = c .before .before .before .before .before .loop in
+    row-fits _ _ _ (loop-here .inv) (onward (c .before))
 
 loop-less : tie.Need-loop-less Inv-loop μ-loop
 loop-less c =

@@ -36,13 +36,19 @@ returns : tie.Need-returns
 returns c = let h = c .before .before in others _ _ (h .look-up .result) (h .look-up .ensures) (c .before .match .keys2)
 
 sub-result : tie.Need-sub-result
-sub-result c = part-within _ _ (c .before .before .before .look-up .ensures) (c .before .p .given .1) .starts
+sub-result c =
+    let look-up = c .before .before .before .look-up in
+    part-within _ _ (look-up .ensures) (c .before .p .given .1) .starts
 
 part-result-start : tie.Need-part-result-start
-part-result-start c = let p = part-within _ _ (c .before .before .before .look-up .ensures) (c .before .p .given .1) in search needs
+part-result-start c =
+    let look-up = c .before .before .before .look-up in
+    let p = part-within _ _ (look-up .ensures) (c .before .p .given .1) in search needs
 
 part-result-end : tie.Need-part-result-end
-part-result-end c = let p = part-within _ _ (c .before .before .before .look-up .ensures) (c .before .p .given .1) in search needs
+part-result-end c =
+    let look-up = c .before .before .before .look-up in
+    let p = part-within _ _ (look-up .ensures) (c .before .p .given .1) in search needs
 
 returns-2 : tie.Need-returns-2
 unfolding entryOf

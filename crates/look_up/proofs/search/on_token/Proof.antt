@@ -47,7 +47,9 @@ enum-known-t : tie.Need-enum-known-t
 enum-known-t c = search needs
 
 on-key-requires : tie.Need-on-key-requires
-on-key-requires c κs = (rw (c .before .t .given .1) at (c .before .before .before .before .before .pre .1)) .within
+on-key-requires c κs =
+    let pre = c .before .before .before .before .before .pre in
+    (rw (c .before .t .given .1) at (pre .1)) .within
 
 returns : tie.Need-returns
 unfolding onToken

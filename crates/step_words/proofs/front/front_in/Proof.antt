@@ -36,7 +36,9 @@ element-copy-out-t30 c = search needs
 
 returns : tie.Need-returns
 unfolding stateIn
-returns c = rw (c .before .before .before .before .before .before .held-by .ensures)
+returns c =
+    let held-by = c .before .before .before .before .before .before .held-by in
+    rw (held-by .ensures)
 
 pub front-in-spec : {M : Type 1} → statement M
 front-in-spec =

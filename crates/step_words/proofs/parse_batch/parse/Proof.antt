@@ -55,9 +55,11 @@ same-length c = search needs
 
 returns-2 : tie.Need-returns-2
 returns-2 c =
+    let args = c .before .before .before .before .before .before .before .before .args in
+    let if1 = c .before .before .before .before .if1 in
     let p = c .before .put-parser in
-    let a = c .before .before .before .before .before .before .before .before .args in
-    unread (a .doc .now) (a .state .now) (a .rows .now) (a .state .now) (a .state .now) (c .before .before .before .before .if1 .left) (sym (p .ensures .0) ∙ not-true _ (c .if2 .taken))
+    let a = args in
+    unread (a .doc .now) (a .state .now) (a .rows .now) (a .state .now) (a .state .now) (if1 .left) (sym (p .ensures .0) ∙ not-true _ (c .if2 .taken))
 
 starts-unfit-requires : tie.Need-starts-unfit-requires
 starts-unfit-requires c κs = search needs
@@ -100,13 +102,14 @@ same-length-6 c = search needs
 
 returns-5 : tie.Need-returns-5
 returns-5 c =
+    let if4 = c .before .before .before .before .before .if4 in
     let t = c .before .before .before .before .before .before .before .before .before .before in
     let k = t .before .before .before .before .before .before in
     let a = begin (k .before) .args in
     let u = rw (kept k) at (t .before .before .before .before .starts-unfit .ensures) in
     let r = rw (kept k) at (t .take-rows .ensures) in
     parses-done (a .doc .now) (a .state .now) (a .rows .now) _ _ (small k) (omega arith) (read k) (fits k) (sym u ∙ t .before .before .before .if3 .left)
-    (rw (r .0, r .1 .0) at (c .before .before .before .before .before .if4 .left)) (r .0) (r .1 .1 .0) (r .1 .1 .1) (c .before .before .put-back .ensures)
+    (rw (r .0, r .1 .0) at (if4 .left)) (r .0) (r .1 .1 .0) (r .1 .1 .1) (c .before .before .put-back .ensures)
 
 pub parse-spec : {M : Type 1} → statement M
 parse-spec =

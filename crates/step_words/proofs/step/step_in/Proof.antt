@@ -30,19 +30,26 @@ abbrev layer : tie.After-outcome-of → Layer
 layer c = start c .args .layer
 
 abbrev came : tie.After-outcome-of → Advanced
-came c = c .before .before .before .before .before .before .came .result
+came c =
+    let came = c .before .before .before .before .before .before .came in
+    came .result
 
 -- what came, and what it leaves
 comes : (c : tie.After-outcome-of) → came c ≡ cameIn (layer c) (doc c) (words c)
-comes c = c .before .before .before .before .before .before .came .ensures
+comes c =
+    let came = c .before .before .before .before .before .before .came in
+    came .ensures
 
 left : (c : tie.After-outcome-of) → c .outcome-of .result ≡ outcomeFor (layer c) (came c .said) (words c)
 left c =
-    c .outcome-of .ensures ∙ ap (λ v. outcomeBy v (came c .said) (getD (words c) 138 0) (getD (words c) 139 0)) (c .before .before .before .judged .ensures)
+    let judged = c .before .before .before .judged in
+    c .outcome-of .ensures ∙ ap (λ v. outcomeBy v (came c .said) (getD (words c) 138 0) (getD (words c) 139 0)) (judged .ensures)
 
 does : (c : tie.After-outcome-of) → stepIn (layer c) (doc c) (words c) ≡ goneBy (layer c) (came c) (c .outcome-of .result) (words c)
 does c =
-    goes (layer c) (doc c) (words c) (sym (c .before .before .before .before .before .before .before .before .before .is-refused .ensures) ∙ c .before .before .before .before .before .before .before .before .if1 .left)
+    let is-refused = c .before .before .before .before .before .before .before .before .before .is-refused in
+    let if1 = c .before .before .before .before .before .before .before .before .if1 in
+    goes (layer c) (doc c) (words c) (sym (is-refused .ensures) ∙ if1 .left)
     ∙ ap (λ (m : Advanced). goneBy (layer c) m (outcomeFor (layer c) (m .said) (words c)) (words c)) (sym (comes c))
     ∙ ap (λ o. goneBy (layer c) (came c) o (words c)) (sym (left c))
 
@@ -52,7 +59,8 @@ is-refused-requires c κs = search needs
 returns : tie.Need-returns
 unfolding stepIn stopsAt
 returns c =
-    let a = c .before .before .before .before .before .args in
+    let args = c .before .before .before .before .before .args in
+    let a = args in
     let e = refused (a .layer) (a .doc .now) (a .w .now) (sym (c .before .is-refused .ensures) ∙ c .if1 .taken) in
     subst (λ g. Does g 0 (a .w .now) (a .at) (a .rows .now) (a .rows .now)) (sym e) (stops-does 0 (a .w .now) (a .at) (a .rows .now) refl)
 
@@ -70,9 +78,11 @@ element-copy-out-outcome-of-2 c = search needs
 
 outcome-of-requires : tie.Need-outcome-of-requires
 outcome-of-requires c κs =
+    let came = c .before .before .before .before .before .came in
+    let args = c .before .before .before .before .before .before .before .before .before .before .before .before .args in
     let v = c .before .before .judged in
-    let k = c .before .before .before .before .before .came .result .said .number in
-    let a = c .before .before .before .before .before .before .before .before .before .before .before .before .args in
+    let k = came .result .said .number in
+    let a = args in
     subst Few (sym (v .ensures)) (few (getD (a .w .now) 147 0) (judgedIn (a .layer) k (a .w .now)) (sound (a .layer) k (a .w .now)))
 
 stops-requires : tie.Need-stops-requires
@@ -113,11 +123,13 @@ same-length c = search needs
 
 returns-3 : tie.Need-returns-3
 returns-3 c =
+    let stops = c .before .before .before .before .before .before .before .before .before .before .before .before .stops in
+    let if2 = c .before .before .before .before .before .before .before .before .before .before .before .if2 in
     let m = c .before .before .before .before .before .before .before .before .before .before .before .before .before .before in
     let o = m .outcome-of .result in
     let w = words m in
     let p = c .before .before .before .before .before .before in
-    let e = sym (c .before .before .before .before .before .before .before .before .before .before .before .before .stops .ensures) ∙ c .before .before .before .before .before .before .before .before .before .before .before .if2 .left in
+    let e = sym (stops .ensures) ∙ if2 .left in
     let g : Gone = record { said = o .answer; words = leftIn (layer m) o (getD w 147 0) (committed (came m) w) } in
     let q : g ≡ stepIn (layer m) (doc m) w = sym (does m ∙ went-on (layer m) (came m) o w e) in
     let r = goes-does g (start m .args .at) (start m .args .rows .now) e in (

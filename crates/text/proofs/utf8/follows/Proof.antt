@@ -35,8 +35,9 @@ shared-slice-read-if3 c = search needs
 
 returns-3 : tie.Need-returns-3 Inv-loop μ-loop
 returns-3 c =
+    let if1 = c .before .before .before .before .if1 in
     let h = c .before .before .before .before .before in
-    sym (h .before .loop .inv ∙ next _ _ _ _ _ (h .loop-test .taken) (c .before .before .before .before .if1 .left) ∙ rw (above _ _ _ (c .if3 .taken)))
+    sym (h .before .loop .inv ∙ next _ _ _ _ _ (h .loop-test .taken) (if1 .left) ∙ rw (above _ _ _ (c .if3 .taken)))
 
 sub-left : tie.Need-sub-left Inv-loop μ-loop
 sub-left c = search needs
@@ -49,8 +50,9 @@ loop-less c = search needs
 
 loop-again : tie.Need-loop-again Inv-loop μ-loop
 loop-again c =
+    let if1 = c .before .before .before .before .if1 in
     let h = c .before .before .before .before .before in
-    h .before .loop .inv ∙ next _ _ _ _ _ (h .loop-test .taken) (c .before .before .before .before .if1 .left)
+    h .before .loop .inv ∙ next _ _ _ _ _ (h .loop-test .taken) (if1 .left)
     ∙ rw (inside _ _ _ (c .before .before .if2 .left) (c .if3 .left))
 
 returns-4 : tie.Need-returns-4 Inv-loop μ-loop

@@ -20,7 +20,9 @@ add-pass-2 : tie.Need-add-pass-2
 add-pass-2 c = omega (arith, count-le notBreak (c .before .before .args .r .now))
 
 slice-aggregate-checked : tie.Need-slice-aggregate-checked
-slice-aggregate-checked c = sym (length-take-le _ _ (omega (arith, count-le notBreak (c .before .before .before .args .r .now))))
+slice-aggregate-checked c =
+    let args = c .before .before .before .args in
+    sym (length-take-le _ _ (omega (arith, count-le notBreak (args .r .now))))
 
 checked-requires : tie.Need-checked-requires
 checked-requires c κs = search needs
@@ -54,8 +56,9 @@ kept-requires-2 c κs = search needs
 returns-2 : tie.Need-returns-2
 unfolding planComment
 returns-2 c =
+    let p = c .before .before .before .p in
     let h = c .before .before .before .before .before in
-    rw (← h .before .before .line-end .ensures, sym (h .checked .ensures) ∙ c .before .before .before .p .given .1)
+    rw (← h .before .before .line-end .ensures, sym (h .checked .ensures) ∙ p .given .1)
     (c .kept2 .ensures ∙ rw (c .before .shifted .ensures))
 
 pub consume-comment-spec : {M : Type 1} → statement M

@@ -34,7 +34,9 @@ add-pass-2 c =
     omega (arith, key-le (h .before .before .args .w .now), rw (from, h .text-len .ensures) at (c .eq-size .ensures))
 
 slice-aggregate-checked : tie.Need-slice-aggregate-checked
-slice-aggregate-checked c = sym (length-take-le _ _ (omega (arith, text-le 61 (c .before .before .before .before .before .args .w .now))))
+slice-aggregate-checked c =
+    let args = c .before .before .before .before .before .args in
+    sym (length-take-le _ _ (omega (arith, text-le 61 (args .w .now))))
 
 checked-requires : tie.Need-checked-requires
 checked-requires c κs = search needs
@@ -68,9 +70,10 @@ kept-requires-2 c κs = search needs
 returns-2 : tie.Need-returns-2
 unfolding planKey
 returns-2 c =
+    let p = c .before .before .before .p in
     let h = c .before .before .before .before .before in
     let e = h .before .before in
-    rw (← e .before .before .text-len .ensures, ← (rw from at (e .eq-size .ensures)), sym (h .checked .ensures) ∙ c .before .before .before .p .given .1)
+    rw (← e .before .before .text-len .ensures, ← (rw from at (e .eq-size .ensures)), sym (h .checked .ensures) ∙ p .given .1)
     (c .kept2 .ensures ∙ rw (c .before .shifted .ensures))
 
 pub consume-key-spec : {M : Type 1} → statement M

@@ -30,10 +30,14 @@ add-passed : tie.Need-add-passed
 add-passed c = search needs
 
 add-passed-2 : tie.Need-add-passed-2
-add-passed-2 c = omega (arith, plain-le 59 (c .before .before .before .before .before .args .r .now))
+add-passed-2 c =
+    let args = c .before .before .before .before .before .args in
+    omega (arith, plain-le 59 (args .r .now))
 
 slice-aggregate-checked : tie.Need-slice-aggregate-checked
-slice-aggregate-checked c = sym (length-take-le _ _ (omega (arith, plain-le 59 (c .before .before .before .before .before .before .args .r .now))))
+slice-aggregate-checked c =
+    let args = c .before .before .before .before .before .before .args in
+    sym (length-take-le _ _ (omega (arith, plain-le 59 (args .r .now))))
 
 checked-requires : tie.Need-checked-requires
 checked-requires c κs = search needs
@@ -71,10 +75,11 @@ kept-requires-3 c κs = search needs
 returns-3 : tie.Need-returns-3
 unfolding planHint
 returns-3 c =
+    let p = c .before .before .before .p in
     let h = c .before .before .before .before .before in
     let n = h .before .before in
     rw (sym (n .before .before .starts-with .ensures) ∙ n .before .if1 .left)
-    (rw (← n .plain-len .ensures, sym (h .checked .ensures) ∙ c .before .before .before .p .given .1)
+    (rw (← n .plain-len .ensures, sym (h .checked .ensures) ∙ p .given .1)
     (c .kept3 .ensures ∙ rw (c .before .shifted .ensures)))
 
 pub consume-multiline-hint-spec : {M : Type 1} → statement M

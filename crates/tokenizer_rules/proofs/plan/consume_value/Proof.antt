@@ -30,13 +30,17 @@ consume-multiline-hint-requires c κs = rw (from, length-drop) (omega (arith, hi
 
 returns : tie.Need-returns
 unfolding planValue
-returns c = rw (sym (c .before .before .before .begins-hint .ensures) ∙ c .before .before .if1 .taken) (rw from at (c .consume-multiline-hint .ensures))
+returns c =
+    let begins-hint = c .before .before .before .begins-hint in
+    rw (sym (begins-hint .ensures) ∙ c .before .before .if1 .taken) (rw from at (c .consume-multiline-hint .ensures))
 
 text-len-requires : tie.Need-text-len-requires
 text-len-requires c κs = search needs
 
 slice-aggregate-checked : tie.Need-slice-aggregate-checked
-slice-aggregate-checked c = sym (length-take-le _ _ (omega (arith, text-le 59 (c .before .before .before .before .before .args .w .now))))
+slice-aggregate-checked c =
+    let args = c .before .before .before .before .before .args in
+    sym (length-take-le _ _ (omega (arith, text-le 59 (args .w .now))))
 
 checked-requires : tie.Need-checked-requires
 checked-requires c κs = search needs
@@ -48,7 +52,9 @@ enum-told : tie.Need-enum-told
 enum-told c = search needs
 
 add-kept : tie.Need-add-kept
-add-kept c = omega (arith, text-le 59 (c .before .before .before .before .before .before .before .before .args .w .now))
+add-kept c =
+    let args = c .before .before .before .before .before .before .before .before .args in
+    omega (arith, text-le 59 (args .w .now))
 
 kept-requires : tie.Need-kept-requires
 kept-requires c κs = search needs
@@ -69,7 +75,9 @@ shifted-requires c κs =
     good-fits _ (n .text-len .result) _ _ (sym (h .checked .ensures) ∙ c .before .p .given .1) (n .before .before .before .before .pre)
 
 add-kept-2 : tie.Need-add-kept-2
-add-kept-2 c = omega (arith, text-le 59 (c .before .before .before .before .before .before .before .before .before .before .args .w .now))
+add-kept-2 c =
+    let args = c .before .before .before .before .before .before .before .before .before .before .args in
+    omega (arith, text-le 59 (args .w .now))
 
 kept-requires-2 : tie.Need-kept-requires-2
 kept-requires-2 c κs = search needs
@@ -77,10 +85,11 @@ kept-requires-2 c κs = search needs
 returns-3 : tie.Need-returns-3
 unfolding planValue planPlain
 returns-3 c =
+    let p = c .before .before .before .p in
     let h = c .before .before .before .before .before in
     let n = h .before .before in
     rw (sym (n .before .before .begins-hint .ensures) ∙ n .before .if1 .left)
-    (rw (← n .text-len .ensures, sym (h .checked .ensures) ∙ c .before .before .before .p .given .1)
+    (rw (← n .text-len .ensures, sym (h .checked .ensures) ∙ p .given .1)
     (c .kept2 .ensures ∙ rw (c .before .shifted .ensures)))
 
 pub consume-value-spec : {M : Type 1} → statement M

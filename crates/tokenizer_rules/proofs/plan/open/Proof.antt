@@ -12,7 +12,9 @@ line-end-requires : tie.Need-line-end-requires
 line-end-requires c κs = search needs
 
 add-kept : tie.Need-add-kept
-add-kept c = omega (arith, count-le notBreak (c .before .before .before .args .w .now))
+add-kept c =
+    let args = c .before .before .before .args in
+    omega (arith, count-le notBreak (args .w .now))
 
 kept-requires : tie.Need-kept-requires
 kept-requires c κs = search needs

@@ -43,9 +43,10 @@ belongs-requires c κs = search needs
 
 returns : tie.Need-returns Inv-loop μ-loop
 returns c =
+    let piece-len = c .before .before .before .piece-len in
     let h = c .before .before .before .before .before in
     sym
-    (stop _ _ (h .before .loop .inv) (rw from at (c .before .before .before .piece-len .ensures))
+    (stop _ _ (h .before .loop .inv) (rw from at (piece-len .ensures))
     (sym (rw from at (c .before .belongs .ensures)) ∙ not-true _ (c .if1 .taken)))
 
 is-lf-requires : tie.Need-is-lf-requires Inv-loop μ-loop
@@ -69,12 +70,13 @@ loop-less c =
 
 loop-again : tie.Need-loop-again Inv-loop μ-loop
 loop-again c =
+    let if1 = c .before .before .before .if1 in
     let b = c .before .before .before .before in
     let h = b .before .before .before .before in
     let j = c .before .before .if2 in
     again _ _ (h .before .loop .inv) (h .loop-test .taken)
     (rw from at (b .before .before .piece-len .ensures))
-    (sym (rw from at (b .belongs .ensures)) ∙ not-false _ (c .before .before .before .if1 .left))
+    (sym (rw from at (b .belongs .ensures)) ∙ not-false _ (if1 .left))
     (⊎-elim (λ w. w .2 ∙ rw from at (w .1 .ensures) ∙ rw (w .0 .taken)) (λ w. w .1 ∙ rw (w .0 .left)) (j .came))
     (⊎-elim (λ w. w .1 ∙ rw (not-true (j .if3) (w .0 .taken))) (λ w. w .1 ∙ rw (not-false (j .if3) (w .0 .left), add-zero)) (c .before .if3 .came))
     (rw from at (c .ends-in-cr .ensures))

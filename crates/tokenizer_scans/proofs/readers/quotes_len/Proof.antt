@@ -31,11 +31,14 @@ returns : tie.Need-returns Inv-loop μ-loop
 returns c = sym (no-quotes _ (sym (c .before .before .first-of .ensures) ∙ c .enum-told .given .1))
 
 returns-2 : tie.Need-returns-2 Inv-loop μ-loop
-returns-2 c = sym (begins _ _ (sym (c .before .before .before .before .first-of .ensures) ∙ c .before .before .first .given .1) ∙ rw (ne-eqb _ _ (c .if1 .taken)))
+returns-2 c =
+    let first-of = c .before .before .before .before .first-of in
+    sym (begins _ _ (sym (first-of .ensures) ∙ c .before .before .first .given .1) ∙ rw (ne-eqb _ _ (c .if1 .taken)))
 
 loop-holds : tie.Need-loop-holds Inv-loop μ-loop
 loop-holds c =
-    let e = sym (c .before .before .before .before .first-of .ensures) ∙ c .before .before .first .given .1 in
+    let first-of = c .before .before .before .before .first-of in
+    let e = sym (first-of .ensures) ∙ c .before .before .first .given .1 in
     (some _ _ e, begins _ _ e ∙ rw (eq-eqb _ _ (c .if1 .left)))
 
 shared-slice-read-b : tie.Need-shared-slice-read-b Inv-loop μ-loop
@@ -54,10 +57,11 @@ add-result c = search needs
 
 returns-4 : tie.Need-returns-4 Inv-loop μ-loop
 returns-4 c =
+    let is-newline = c .before .before .before .is-newline in
     let h = c .before .before .before .before .before in
     sym
     (h .before .loop .inv .1
-    ∙ close _ _ _ (h .loop-test .taken) (sym (c .before .before .before .is-newline .ensures) ∙ c .before .before .if2 .left)
+    ∙ close _ _ _ (h .loop-test .taken) (sym (is-newline .ensures) ∙ c .before .before .if2 .left)
     (rw (eq-eqb _ _ (c .before .if3 .taken)) (c .if4 .taken)))
 
 add-i : tie.Need-add-i Inv-loop μ-loop
@@ -68,10 +72,11 @@ loop-less c = search needs
 
 loop-again : tie.Need-loop-again Inv-loop μ-loop
 loop-again c =
+    let is-newline = c .before .before .before .is-newline in
     let h = c .before .before .before .before .before in (
       search needs,
       h .before .loop .inv .1
-          ∙ more _ _ _ (h .loop-test .taken) (sym (c .before .before .before .is-newline .ensures) ∙ c .before .before .if2 .left)
+          ∙ more _ _ _ (h .loop-test .taken) (sym (is-newline .ensures) ∙ c .before .before .if2 .left)
           (⊎-elim (λ w. rw (eq-eqb _ _ (w .0 .taken)) (w .1 .left)) (λ w. rw (ne-eqb _ _ (w .left))) (c .before .if3 .came))
           (⊎-elim (λ w. w .1 ∙ rw (eq-eqb _ _ (w .0 .taken))) (λ w. w .1 ∙ rw (ne-eqb _ _ (w .0 .left))) (c .if5 .came)),
     )

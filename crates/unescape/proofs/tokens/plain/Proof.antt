@@ -12,8 +12,8 @@ slice-aggregate-result c = search needs
 returns : tie.Need-returns
 returns c = plain-over _ _ (c .before .if1 .taken)
 
-words-of-requires : tie.Need-words-of-requires
-words-of-requires c κs = search needs
+source-of-requires : tie.Need-source-of-requires
+source-of-requires c κs = search needs
 
 is-sound-requires : tie.Need-is-sound-requires
 is-sound-requires c κs = search needs
@@ -22,7 +22,10 @@ slice-aggregate-result-2 : tie.Need-slice-aggregate-result-2
 slice-aggregate-result-2 c = search needs
 
 returns-2 : tie.Need-returns-2
-returns-2 c = plain-no-text _ _ _ (c .before .before .before .before .before .words-of .ensures) (c .before .before .before .before .before .before .if1 .left) (sym (c .before .before .is-sound .ensures) ∙ not-true _ (c .before .if2 .taken))
+returns-2 c =
+    let source-of = c .before .before .before .before .before .source-of in
+    let if1 = c .before .before .before .before .before .before .if1 in
+    plain-no-text _ _ _ (source-of .ensures) (if1 .left) (sym (c .before .before .is-sound .ensures) ∙ not-true _ (c .before .if2 .taken))
 
 is-sound-requires-2 : tie.Need-is-sound-requires-2
 is-sound-requires-2 c κs = search needs
@@ -31,24 +34,40 @@ slice-aggregate-result-3 : tie.Need-slice-aggregate-result-3
 slice-aggregate-result-3 c = search needs
 
 returns-3 : tie.Need-returns-3
-returns-3 c = plain-no-indent _ _ _ (c .before .before .before .before .before .before .before .words-of .ensures) (c .before .before .before .before .before .before .before .before .if1 .left) (sym (c .before .before .before .before .is-sound .ensures) ∙ not-false _ (c .before .before .before .if2 .left)) (sym (c .before .before .is-sound2 .ensures) ∙ not-true _ (c .before .if3 .taken))
+returns-3 c =
+    let source-of = c .before .before .before .before .before .before .before .source-of in
+    let if1 = c .before .before .before .before .before .before .before .before .if1 in
+    let is-sound = c .before .before .before .before .is-sound in
+    let if2 = c .before .before .before .if2 in
+    plain-no-indent _ _ _ (source-of .ensures) (if1 .left) (sym (is-sound .ensures) ∙ not-false _ (if2 .left)) (sym (c .before .before .is-sound2 .ensures) ∙ not-true _ (c .before .if3 .taken))
 
 sub-plain-part : tie.Need-sub-plain-part
-sub-plain-part c = sound-fits _ _ (sym (c .before .before .before .is-sound .ensures) ∙ not-false _ (c .before .before .if2 .left)) .0
+sub-plain-part c =
+    let is-sound = c .before .before .before .is-sound in
+    sound-fits _ _ (sym (is-sound .ensures) ∙ not-false _ (c .before .before .if2 .left)) .0
 
 part-plain-part-start : tie.Need-part-plain-part-start
-part-plain-part-start c = sound-fits _ _ (sym (c .before .before .before .is-sound .ensures) ∙ not-false _ (c .before .before .if2 .left)) .0
+part-plain-part-start c =
+    let is-sound = c .before .before .before .is-sound in
+    sound-fits _ _ (sym (is-sound .ensures) ∙ not-false _ (c .before .before .if2 .left)) .0
 
 part-plain-part-end : tie.Need-part-plain-part-end
-part-plain-part-end c = sound-fits _ _ (sym (c .before .before .before .is-sound .ensures) ∙ not-false _ (c .before .before .if2 .left)) .1
+part-plain-part-end c =
+    let is-sound = c .before .before .before .is-sound in
+    sound-fits _ _ (sym (is-sound .ensures) ∙ not-false _ (c .before .before .if2 .left)) .1
 
 plain-part-requires : tie.Need-plain-part-requires
 plain-part-requires c κs = search needs
 
 returns-4 : tie.Need-returns-4
 returns-4 c =
+    let source-of = c .before .before .before .before .before .before .before .before .source-of in
+    let if1 = c .before .before .before .before .before .before .before .before .before .if1 in
+    let is-sound = c .before .before .before .before .before .is-sound in
+    let if2 = c .before .before .before .before .if2 in
+    let is-sound2 = c .before .before .before .is-sound2 in
     c .plain-part .ensures
-    ∙ plain-ruled _ _ _ (c .before .before .before .before .before .before .before .before .words-of .ensures) (c .before .before .before .before .before .before .before .before .before .if1 .left) (sym (c .before .before .before .before .before .is-sound .ensures) ∙ not-false _ (c .before .before .before .before .if2 .left)) (sym (c .before .before .before .is-sound2 .ensures) ∙ not-false _ (c .before .before .if3 .left))
+    ∙ plain-ruled _ _ _ (source-of .ensures) (if1 .left) (sym (is-sound .ensures) ∙ not-false _ (if2 .left)) (sym (is-sound2 .ensures) ∙ not-false _ (c .before .before .if3 .left))
 
 pub plain-spec : {M : Type 1} → statement M
 plain-spec =
@@ -56,7 +75,7 @@ plain-spec =
     (tie.spec
     slice-aggregate-result
     returns
-    words-of-requires
+    source-of-requires
     is-sound-requires
     slice-aggregate-result-2
     returns-2

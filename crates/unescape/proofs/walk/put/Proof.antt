@@ -16,14 +16,18 @@ slice-aggregate-copy : tie.Need-slice-aggregate-copy
 slice-aggregate-copy c = sym (length-take-le _ _ (rw (c .before .before .encode .ensures) (encoded-le _)))
 
 copy-requires : tie.Need-copy-requires
-copy-requires c κs = rw (c .before .before .before .encode .ensures, encoded-bytes) (c .before .before .before .before .before .pre)
+copy-requires c κs =
+    let encode = c .before .before .before .encode in
+    let pre = c .before .before .before .before .before .pre in
+    rw (encode .ensures, encoded-bytes) (pre)
 
 same-length : tie.Need-same-length
 same-length c = search needs
 
 returns : tie.Need-returns
 returns c =
-    let e = c .before .before .before .before .before .before .encode .ensures in
+    let encode = c .before .before .before .before .before .before .encode in
+    let e = encode .ensures in
     (rw e (encoded-len _), c .before .before .copy .ensures ∙ rw (e, encoded-bytes))
 
 pub put-spec : {M : Type 1} → statement M

@@ -15,7 +15,9 @@ len-before-requires : tie.Need-len-before-requires
 len-before-requires c κs = search needs
 
 add-t6 : tie.Need-add-t6
-add-t6 c = omega (arith, c .before .len-before .ensures, count-le inBrace (c .before .before .before .args .s .now))
+add-t6 c =
+    let args = c .before .before .before .args in
+    omega (arith, c .before .len-before .ensures, count-le inBrace (args .s .now))
 
 stop-requires : tie.Need-stop-requires
 stop-requires c κs = search needs
@@ -33,7 +35,9 @@ stop-requires-2 : tie.Need-stop-requires-2
 stop-requires-2 c κs = search needs
 
 returns-2 : tie.Need-returns-2
-returns-2 c = c .stop2 .ensures ∙ sym (brace-quote _ _ (c .before .before .before .before .len-before .ensures) (c .before .if2 .taken))
+returns-2 c =
+    let len-before = c .before .before .before .before .len-before in
+    c .stop2 .ensures ∙ sym (brace-quote _ _ (len-before .ensures) (c .before .if2 .taken))
 
 slice-aggregate-code-of : tie.Need-slice-aggregate-code-of
 slice-aggregate-code-of c = sym (length-take-le _ _ (omega arith))
@@ -52,16 +56,21 @@ stop-requires-3 c κs = search needs
 
 returns-3 : tie.Need-returns-3
 returns-3 c =
+    let len-before = c .before .before .before .before .before .before .before .before .len-before in
+    let if2 = c .before .before .before .before .before .if2 in
+    let code-of = c .before .before .before .code-of in
     c .stop3 .ensures
-    ∙ sym (brace-bad _ _ (c .before .before .before .before .before .before .before .before .len-before .ensures) (c .before .before .before .before .before .if2 .left) (ap isScalar (sym (c .before .before .before .code-of .ensures)) ∙ sym (c .before .before .is-scalar .ensures) ∙ not-true _ (c .before .if3 .taken)))
+    ∙ sym (brace-bad _ _ (len-before .ensures) (if2 .left) (ap isScalar (sym (code-of .ensures)) ∙ sym (c .before .before .is-scalar .ensures) ∙ not-true _ (c .before .if3 .taken)))
 
 add-t4 : tie.Need-add-t4
 add-t4 c = search needs
 
 returns-4 : tie.Need-returns-4
 returns-4 c =
+    let len-before = c .before .before .before .before .before .before .before .len-before in
+    let if2 = c .before .before .before .before .if2 in
     rw (c .before .before .code-of .ensures)
-    (sym (brace-code _ _ (c .before .before .before .before .before .before .before .len-before .ensures) (c .before .before .before .before .if2 .left) (ap isScalar (sym (c .before .before .code-of .ensures)) ∙ sym (c .before .is-scalar .ensures) ∙ not-false _ (c .if3 .left))))
+    (sym (brace-code _ _ (len-before .ensures) (if2 .left) (ap isScalar (sym (c .before .before .code-of .ensures)) ∙ sym (c .before .is-scalar .ensures) ∙ not-false _ (c .if3 .left))))
 
 pub brace-next-spec : {M : Type 1} → statement M
 brace-next-spec =

@@ -19,7 +19,9 @@ starts-with-requires c κs = search needs
 
 returns : tie.Need-returns
 unfolding lineNext
-returns c = rw (← c .before .before .before .line-end .ensures, sym (c .before .starts-with .ensures) ∙ c .if1 .taken)
+returns c =
+    let line-end = c .before .before .before .line-end in
+    rw (← line-end .ensures, sym (c .before .starts-with .ensures) ∙ c .if1 .taken)
 
 returns-2 : tie.Need-returns-2
 unfolding lineNext

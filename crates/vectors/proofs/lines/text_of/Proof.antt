@@ -84,7 +84,8 @@ loop-less c = search needs
 
 loop-again : tie.Need-loop-again Inv-loop μ-loop
 loop-again c =
-    let h = c .before .before .before .before .before .before .before .before .before .before .before .loop .inv .1 in
+    let loop-here = c .before .before .before .before .before .before .before .before .before .before .before .loop in
+    let h = loop-here .inv .1 in
     (omega arith, rw length-set h)
 
 returns-6 : tie.Need-returns-6 Inv-loop μ-loop

@@ -18,7 +18,9 @@ array-share-prefix-bytes : tie.Need-array-share-prefix-bytes
 array-share-prefix-bytes c = search needs
 
 slice-aggregate-s : tie.Need-slice-aggregate-s
-slice-aggregate-s c = sym (length-take-le _ _ (c .before .before .before .text-of .ensures))
+slice-aggregate-s c =
+    let text-of = c .before .before .before .text-of in
+    sym (length-take-le _ _ (text-of .ensures))
 
 shared-slice-read-match : tie.Need-shared-slice-read-match
 shared-slice-read-match c = search needs

@@ -57,18 +57,24 @@ loop-less : tie.Need-loop-less Inv-loop μ-loop
 loop-less c = search needs
 
 loop-again : tie.Need-loop-again Inv-loop μ-loop
-loop-again c = (omega arith, open-more _ _ _ (c .before .before .before .loop .inv .1) (c .part-fits .ensures))
+loop-again c =
+    let loop-here = c .before .before .before .loop in
+    (omega arith, open-more _ _ _ (loop-here .inv .1) (c .part-fits .ensures))
 
 returns-6 : tie.Need-returns-6 Inv-loop μ-loop
 returns-6 c =
+    let args = c .before .before .before .before .before .before .before .before .args in
+    let if1 = c .before .before .before .before .before .before .before .if1 in
+    let held-fits = c .before .before .before .before .held-fits in
+    let if4 = c .before .before .before .if4 in
     let l = c .before in
-    let s = c .before .before .before .before .before .before .before .before .args .t1 in
-    let n = c .before .before .before .before .before .before .before .before .args .n in
+    let s = args .t1 in
+    let n = args .n in
     let positive : 0 < s .line = omega arith in
     let low : s .line ≤ s .place + 1 = omega arith in
     let all : l .loop .i ≡ s .depth = omega arith in
     l .loop .inv .1 ∙ ap (fitOpen n (s .indents)) all
-    ∙ sym (open-decides n s (c .before .before .before .before .before .before .before .if1 .left) positive low (sym (c .before .before .before .before .held-fits .ensures) ∙ not-false _ (c .before .before .before .if4 .left)) (c .before .before .if5 .left))
+    ∙ sym (open-decides n s (if1 .left) positive low (sym (held-fits .ensures) ∙ not-false _ (if4 .left)) (c .before .before .if5 .left))
 
 pub fits-spec : {M : Type 1} → statement M
 fits-spec =

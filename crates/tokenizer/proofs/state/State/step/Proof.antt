@@ -72,8 +72,9 @@ else c = c .before .before .before .before .before .before .before
 
 planned-requires : tie.Need-planned-requires
 planned-requires c κs =
+    let indent-at = c .before .before .before .before .indent-at in
     let f = fitness _ _ (fits (else c)) in
-    let i = rw from at (c .before .before .before .before .indent-at .ensures .0) in
+    let i = rw from at (indent-at .ensures .0) in
     (f .place, (rw (inner c) (inner-fit _ _ _ (f .opens)), rw i (indent-fit _ _ f)))
 
 -- the plan is the rule's
@@ -81,8 +82,9 @@ plan : (c : tie.After-planned) → let i = c .before .before .before .before .be
     c .planned .result ≡ planWith (start (c .before) .args .doc .now) (start (c .before) .args .t1) (i .part) (i .size)
 unfolding planWith
 plan c =
+    let indent-at = c .before .before .before .before .before .indent-at in
     let a = start (c .before) .args in
-    let i = c .before .before .before .before .before .indent-at .result in
+    let i = indent-at .result in
     c .planned .ensures
     ∙ ap (λ p. planAt (a .t1 .marks) (a .t1 .depth) (bytesOf (a .doc .now) p) (bytesOf (a .doc .now) (i .part)) (drop (a .t1 .place) (a .doc .now)) (i .size)) (inner (c .before))
 

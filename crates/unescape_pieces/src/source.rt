@@ -7,20 +7,20 @@ use text::first_of;
 use tokenizer::Token;
 ghost use mathlib.Core.Path.{_≡_};
 ghost use Rattle.tokenizer.specs.Step.{noPart};
-ghost use Rattle.unescape_pieces.specs.declared.words.Reading.the-variants.{AsIs};
-ghost use Rattle.unescape_pieces.specs.Words.{worded as wordedAs, wordsOf, sound};
+ghost use Rattle.unescape_pieces.specs.declared.source.Style.the-variants.{AsIs};
+ghost use Rattle.unescape_pieces.specs.Source.{sourceAt as wordedAs, sourceOf, sound};
 ghost use Rattle.unescape_pieces.specs.Pieces.{entryStart, blockStart, startOf};
 
 // How a text is read: as it stands, as a key or a value, or as a multiline value.
-pub enum Reading {
+pub enum Style {
     AsIs,
     Entry,
     Block,
 }
 
 // A token's text, the empty part at 0 where it has none, and a multiline value's indentation.
-pub struct Worded {
-    pub reading: Reading,
+pub struct Source {
+    pub style: Style,
     pub text: Part,
     pub indent: Part,
 }
@@ -32,42 +32,42 @@ pub enum Start {
 }
 
 // A text with no indentation.
-fn as_words(reading: Reading, text: Part) -> Worded
-    ensures { λ r. ⌜ r ≡ wordedAs reading text ⌝ }
+fn source_at(style: Style, text: Part) -> Source
+    ensures { λ r. ⌜ r ≡ wordedAs style text ⌝ }
 {
-    Worded {
-        reading,
+    Source {
+        style,
         text,
         indent: Part { start: 0, end: 0 },
     }
 }
 
 // A token without a text.
-fn no_words() -> Worded
+fn no_source() -> Source
     ensures { λ r. ⌜ r ≡ wordedAs AsIs noPart ⌝ }
 {
-    as_words(Reading::AsIs, Part { start: 0, end: 0 })
+    source_at(Style::AsIs, Part { start: 0, end: 0 })
 }
 
 // The text of a token, and how it is read.
-pub fn words_of(t: Token) -> Worded
-    ensures { λ r. ⌜ r ≡ wordsOf t ⌝ }
+pub fn source_of(t: Token) -> Source
+    ensures { λ r. ⌜ r ≡ sourceOf t ⌝ }
 {
     match t {
-        Token::Comment(_, p) => as_words(Reading::AsIs, p),
-        Token::MapKey(_, p) => as_words(Reading::Entry, p),
-        Token::Value(_, p) => as_words(Reading::Entry, p),
-        Token::MultilineHint(_, p) => as_words(Reading::AsIs, p),
-        Token::MultilineValue(_, indent, p) => Worded {
-            reading: Reading::Block,
+        Token::Comment(_, p) => source_at(Style::AsIs, p),
+        Token::MapKey(_, p) => source_at(Style::Entry, p),
+        Token::Value(_, p) => source_at(Style::Entry, p),
+        Token::MultilineHint(_, p) => source_at(Style::AsIs, p),
+        Token::MultilineValue(_, indent, p) => Source {
+            style: Style::Block,
             text: p,
             indent,
         },
-        Token::Newline(_) => no_words(),
-        Token::Indent(_) => no_words(),
-        Token::Outdent(_) => no_words(),
-        Token::ListItem(_) => no_words(),
-        Token::NoValue(_) => no_words(),
+        Token::Newline(_) => no_source(),
+        Token::Indent(_) => no_source(),
+        Token::Outdent(_) => no_source(),
+        Token::ListItem(_) => no_source(),
+        Token::NoValue(_) => no_source(),
     }
 }
 
@@ -119,12 +119,12 @@ fn block_start(s: &[u8]) -> Start
 }
 
 // What becomes of a text, by how it is read.
-pub fn start_of(reading: Reading, s: &[u8]) -> Start
-    ensures { λ r. ⌜ r ≡ startOf reading (now (s .entry)) ⌝ }
+pub fn start_of(style: Style, s: &[u8]) -> Start
+    ensures { λ r. ⌜ r ≡ startOf style (now (s .entry)) ⌝ }
 {
-    match reading {
-        Reading::AsIs => Start::Plain(0, s.len()),
-        Reading::Entry => entry_start(s),
-        Reading::Block => block_start(s),
+    match style {
+        Style::AsIs => Start::Plain(0, s.len()),
+        Style::Entry => entry_start(s),
+        Style::Block => block_start(s),
     }
 }

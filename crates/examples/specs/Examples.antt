@@ -17,7 +17,7 @@ abbrev pub part : ℕ → ℕ → Part
 part a e = record { start = a; end = e }
 
 -- `code` is refusal 8 with the part that it shows, `refused` another one
-pub record Rows : Type 0 where
+pub record Examples : Type 0 where
   -- empty: no answers
   pub no-tokens : tokens [] ≡ []
   pub no-answers : parse [] ≡ []

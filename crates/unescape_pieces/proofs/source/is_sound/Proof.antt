@@ -1,9 +1,9 @@
 -- `is_sound` is its definition: the part fits, and its bytes are UTF-8.
 use borrow.Author.Tests.{le-leb, lt-leb}
-use Rattle.unescape_pieces.specs.Words.{sound}
+use Rattle.unescape_pieces.specs.Source.{sound}
 use borrow.Author.Needs.{needs}
-use Rattle.unescape_pieces.proofs.words.is_sound.Statement.{statement}
-use Rattle.unescape_pieces.proofs.words.is_sound.Tie as tie
+use Rattle.unescape_pieces.proofs.source.is_sound.Statement.{statement}
+use Rattle.unescape_pieces.proofs.source.is_sound.Tie as tie
 
 returns : tie.Need-returns
 unfolding sound
@@ -24,7 +24,9 @@ is-utf8-requires c κs = search needs
 
 returns-3 : tie.Need-returns-3
 unfolding sound
-returns-3 c = rw (le-leb _ _ (c .before .before .before .if1 .left), le-leb _ _ (c .before .before .if2 .left)) (c .is-utf8 .ensures)
+returns-3 c =
+    let if1 = c .before .before .before .if1 in
+    rw (le-leb _ _ (if1 .left), le-leb _ _ (c .before .before .if2 .left)) (c .is-utf8 .ensures)
 
 pub is-sound-spec : {M : Type 1} → statement M
 is-sound-spec =
