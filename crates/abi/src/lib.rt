@@ -77,7 +77,7 @@ pub extern "C" fn conl_tokenize(doc: &[u8], state: &mut [usize], rows: &mut [usi
     ensures { λ r. ⌜ now (state .exit) ≡ batchOf (now (doc .entry)) (now (state .entry)) (now (rows .entry)) .words ⌝ }
     ensures { λ r. ⌜ now (rows .exit) ≡ batchOf (now (doc .entry)) (now (state .entry)) (now (rows .entry)) .rows ⌝ }
 {
-    tokenizer_words::tokenize(doc, state, rows)
+    step_words::tokenize(doc, state, rows)
 }
 
 // Writes the parser's fresh state at the front of the words: true; or false, with state unchanged, where there are
@@ -98,7 +98,7 @@ pub extern "C" fn conl_parse(doc: &[u8], state: &mut [usize], rows: &mut [usize]
     ensures { λ r. ⌜ now (state .exit) ≡ parseBatchOf (now (doc .entry)) (now (state .entry)) (now (rows .entry)) .words ⌝ }
     ensures { λ r. ⌜ now (rows .exit) ≡ parseBatchOf (now (doc .entry)) (now (state .entry)) (now (rows .entry)) .rows ⌝ }
 {
-    parser_words::parse(doc, state, rows)
+    step_words::parse(doc, state, rows)
 }
 
 // Unescapes the token of a row, and writes the answer at the front of its words: 0, 0, 0, start and end of a plain

@@ -13,7 +13,8 @@ use Rattle.parser_rules.specs.declared.ruling.Answer.{Answer}
 use Rattle.parser_rules.specs.declared.ruling.Answer.the-variants.{Refused}
 use Rattle.parser.specs.declared.state.State.{State}
 use Rattle.parser.proofs.Valued.{values-injective}
-use Rattle.parser_claims.proofs.Rests.{rest, Stands, fresh-stands, rest-end, rest-step, step-stands}
+use Rattle.parser_claims.specs.Rests.{rest, Stands}
+use Rattle.parser_claims.proofs.Rests.{fresh-stands, rest-end, rest-step, step-stands}
 use Rattle.listing_text.specs.Text.{placed, filled}
 use Rattle.listing_text.specs.Listing.{header, answerText, rowsText, listingOf}
 use Rattle.listing_text.proofs.Placing.{Wrote, both, placed-filled}

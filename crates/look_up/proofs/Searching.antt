@@ -15,7 +15,8 @@ use Rattle.parser.specs.declared.state.State.{State}
 use Rattle.parser.specs.declared.state.Step.{Step}
 use Rattle.parser.proofs.Valued.{equal-steps}
 use Rattle.parser_claims.specs.Claims.{Fits}
-use Rattle.parser_claims.proofs.Rests.{rest, Stands, fresh-stands, rest-end, rest-step, step-fits, step-stands}
+use Rattle.parser_claims.specs.Rests.{rest, Stands}
+use Rattle.parser_claims.proofs.Rests.{fresh-stands, rest-end, rest-step, step-fits, step-stands}
 use Rattle.parser_claims.proofs.Ordered.{Ordered, tail, parse-ordered}
 use Rattle.look_up.specs.Entries.{lookUp}
 use Rattle.look_up.specs.Search.{MayCome, onAnswer}

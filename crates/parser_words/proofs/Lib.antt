@@ -1,12 +1,5 @@
 pub mod Tests
 pub mod Sorts
-pub mod ParserRulings
-pub mod ParserSteps
 pub mod Back
 pub mod Slotted
-pub mod Agreeing
-pub mod Putting
-pub mod Coming
-pub mod Going
-pub mod Walking
 pub mod Claimed

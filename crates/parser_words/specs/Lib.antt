@@ -1,4 +1,3 @@
 pub mod ParserWords
 pub mod Parsing
-pub mod Stepping
 pub mod Claims

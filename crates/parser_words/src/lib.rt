@@ -1,8 +1,9 @@
-// A batch of the parser's steps over lent words, for callers in C and Rust.
-mod rows;
-mod steps;
+// A parser's state in lent words, for callers in C and Rust.
 mod words;
 
-pub use rows::parse;
 pub use words::fresh_parser;
+pub use words::is_parser;
+pub use words::load_parser;
+pub use words::sort_word;
+pub use words::store_parser;
 pub use words::token_in;

@@ -14,7 +14,6 @@ use tokenizer_words::paste;
 use tokenizer_words::store;
 use tokenizer_words::token_row;
 ghost use mathlib.Core.Path.{_≡_};
-ghost use mathlib.Core.List.{_++_};
 ghost use Prim.Native.Nat.{_≤_};
 ghost use lib.Dec.{leb};
 ghost use lib.ListN.{length, getD, drop};
@@ -27,7 +26,7 @@ ghost use Rattle.parser_words.specs.ParserWords.{
   awaitedWords,
   keptWords,
   middleWords,
-  parserWords,
+  parserStoredIn,
   sortIn,
   sectionsIn,
   awaitedIn,
@@ -35,6 +34,7 @@ ghost use Rattle.parser_words.specs.ParserWords.{
   tokenIn,
   keptIn,
   parserIn,
+  parserLoadedFrom,
   areSorts,
   parserReadable,
   freshParserIn,
@@ -56,7 +56,7 @@ fn are_sorts(w: &[usize]) -> bool
 }
 
 // Whether the words are a parser's state.
-pub(crate) fn is_parser(w: &[usize]) -> bool
+pub fn is_parser(w: &[usize]) -> bool
     ensures { λ r. ⌜ r ≡ parserReadable (now (w .entry)) ⌝ }
 {
     if w.len() < 213 {
@@ -153,11 +153,13 @@ fn kept_in(w: &[usize]) -> Kept
     Kept::Token(token_in(w))
 }
 
-// The state in the words.
-pub(crate) fn load_parser(w: &[usize]) -> State
-    requires { ⌜ parserSize ≤ length (now w) ⌝ }
-    ensures { λ r. ⌜ r ≡ parserIn (now (w .entry)) ⌝ }
+// The state in the words; the fresh one where there are fewer than 213.
+pub fn load_parser(w: &[usize]) -> State
+    ensures { λ r. ⌜ r ≡ parserLoadedFrom (now (w .entry)) ⌝ }
 {
+    if w.len() < 213 {
+        return State::new();
+    }
     let tokenizer = load(w);
     let kept = kept_in(&w[140..]);
     let awaited = awaited_in(w[138], w[139]);
@@ -172,7 +174,8 @@ pub(crate) fn load_parser(w: &[usize]) -> State
     }
 }
 
-pub(crate) fn sort_word(s: Sort) -> usize
+// A sort's word.
+pub fn sort_word(s: Sort) -> usize
     ensures { λ r. ⌜ r ≡ sortWord s ⌝ }
 {
     match s {
@@ -239,17 +242,21 @@ fn put_sorts(sections: [Section; 65], w: &mut [usize])
     }
 }
 
-// Writes the state at the front of the words.
-pub(crate) fn store_parser(s: State, w: &mut [usize])
-    requires { ⌜ parserSize ≤ length (now w) ⌝ }
-    ensures { λ _. ⌜ now (w .exit) ≡ parserWords s ++ drop parserSize (now (w .entry)) ⌝ }
+// Writes the state at the front of the words: true; or false, with nothing written, where there are fewer than 213.
+pub fn store_parser(s: State, words: &mut [usize]) -> bool
+    ensures { λ r. ⌜ r ≡ leb parserSize (length (now (words .entry))) ⌝ }
+    ensures { λ r. ⌜ now (words .exit) ≡ parserStoredIn s (now (words .entry)) ⌝ }
 {
+    if words.len() < 213 {
+        return false;
+    }
     let tokenizer = s.tokenizer;
     let sections = s.sections;
     let m = middle(s);
-    store(tokenizer, w);
-    paste(&m, 137, w);
-    put_sorts(sections, w);
+    store(tokenizer, words);
+    paste(&m, 137, words);
+    put_sorts(sections, words);
+    true
 }
 
 // Writes the fresh state at the front: true; or false, with nothing written, where there are fewer than 213 words.
@@ -257,9 +264,5 @@ pub fn fresh_parser(state: &mut [usize]) -> bool
     ensures { λ r. ⌜ r ≡ leb parserSize (length (now (state .entry))) ⌝ }
     ensures { λ r. ⌜ now (state .exit) ≡ freshParserIn (now (state .entry)) ⌝ }
 {
-    if state.len() < 213 {
-        return false;
-    }
-    store_parser(State::new(), state);
-    true
+    store_parser(State::new(), state)
 }

@@ -40,7 +40,7 @@ use Rattle.tokenizer.specs.declared.front.Front.{Front}
 use Rattle.tokenizer.specs.declared.front.Advanced.{Advanced}
 use Rattle.tokenizer.proofs.Bounds.{plan-bounded}
 use Rattle.tokenizer.proofs.Fitness.{fitness, part-fit, inner-fit}
-use Rattle.tokenizer.proofs.Numbers.{plan-number}
+use Rattle.tokenizer.proofs.Numbers.{plan-number, ruled-number}
 use Rattle.tokenizer.proofs.Steps.{ruled}
 
 -- what a step uses, test by test
@@ -132,6 +132,10 @@ module _ (d : List ℕ) (s : State) (h : length d ≤ 16777216) (e : fit (length
         le-leb (s .depth) 64 (f .depth),
         inner-fit (length d) (s .indents) (s .depth) (f .opens),
       )
+
+  -- it refuses by no more than 3
+  pub step-number : valuesOf (stepOf d s .answer) .number ≤ 259
+  step-number = rw (ruled d s h e) (ruled-number d s)
 
   pub step-said : advancedOf d (frontOf s) inner .said ≡ saidBy (valuesOf (stepOf d s .answer))
   unfolding advanceRule advanceWith stepRule stepWith planWith

@@ -12,12 +12,7 @@ use Rattle.text.specs.declared.bytes.Part.{Part}
 use Rattle.tokenizer.specs.declared.state.Held.{Held}
 use Rattle.tokenizer.specs.declared.state.Held.the-variants.{Nothing, At}
 use Rattle.tokenizer.specs.declared.state.State.{State}
-use Rattle.tokenizer.specs.Step.{stepOf, fresh}
-use Rattle.tokenizer.specs.Lists.{isEnd}
-use Rattle.tokenizer.specs.declared.front.Front.{Front}
-use Rattle.tokenizer.specs.declared.front.Advanced.{Advanced}
-use Rattle.tokenizer_rules.specs.declared.plan.Change.{Change}
-use Rattle.tokenizer_rules.specs.declared.plan.Change.the-variants.{Keep, Open, Close, Hold}
+use Rattle.tokenizer.specs.Step.{fresh}
 
 -- how many words a state has: nine, and two for each slot, 137
 abbrev pub tokenizerSize : ℕ
@@ -49,12 +44,6 @@ frontWords s =
     s .place ∷ s .line ∷ flag (s .marks .indent) ∷ flag (s .marks .value) ∷ flag (s .marks .multiline)
     ∷ (heldWords (s .held) ++ (s .depth ∷ []))
 
--- the same words of a front
-unfoldable pub frontWordsBy : Front → List ℕ
-frontWordsBy f =
-    f .place ∷ f .line ∷ flag (f .marks .indent) ∷ flag (f .marks .value) ∷ flag (f .marks .multiline)
-    ∷ (heldWords (f .held) ++ (f .depth ∷ []))
-
 -- the words of a state
 unfoldable pub wordsOf : State → List ℕ
 wordsOf s = frontWords s ++ partWords (s .indents)
@@ -68,13 +57,17 @@ unfoldable pub partsIn : ℕ → List ℕ → List Part
 partsIn zero w = []
 partsIn (suc n) w = record { start = getD w 0 0; end = getD w 1 0 } ∷ partsIn n (drop 2 w)
 
+-- what is held, by its three words
+abbrev pub heldBy : ℕ → ℕ → ℕ → Held
+heldBy n a e = cond (eqb n 1) (At (record { start = a; end = e })) Nothing
+
 -- the state in words
 unfoldable pub stateIn : List ℕ → State
 stateIn w = record {
   place = getD w 0 0;
   line = getD w 1 0;
   marks = record { indent = eqb (getD w 2 0) 1; value = eqb (getD w 3 0) 1; multiline = eqb (getD w 4 0) 1 };
-  held = cond (eqb (getD w 5 0) 1) (At (record { start = getD w 6 0; end = getD w 7 0 })) Nothing;
+  held = heldBy (getD w 5 0) (getD w 6 0) (getD w 7 0);
   indents = partsIn maxOpen (drop 9 w);
   depth = getD w 8 0;
 }
@@ -86,21 +79,6 @@ loadedFrom w = cond (leb tokenizerSize (length w)) (stateIn w) fresh
 -- the words are a state's: there are 137, and what is to be 0 or 1 is; else they are an unfit state, 15
 unfoldable pub readable : List ℕ → Bool
 readable w = leb tokenizerSize (length w) && (leb (getD w 2 0) 1 && (leb (getD w 3 0) 1 && (leb (getD w 4 0) 1 && leb (getD w 5 0) 1)))
-
--- the words with an indentation that opens in its slot, n being open
-unfoldable pub slotIn : Change → Part → ℕ → List ℕ → List ℕ
-slotIn Keep i n w = w
-slotIn Open i n w = pastedIn (i .start ∷ i .end ∷ []) (9 + 2 * n) w
-slotIn Close i n w = w
-slotIn Hold i n w = w
-
--- the words with what a step comes to
-unfoldable pub committed : Advanced → List ℕ → List ℕ
-committed m w = slotIn (m .change) (m .indent) (getD w 8 0) (pastedIn (frontWordsBy (m .front)) 0 w)
-
--- the words after one step of the state in them: unchanged where it is End
-unfoldable pub steppedIn : List ℕ → List ℕ → List ℕ
-steppedIn d w = let t = stepOf d (stateIn w) in cond (isEnd (t .answer)) w (wordsOf (t .state) ++ drop tokenizerSize w)
 
 -- the words with the fresh state at their front
 abbrev pub freshIn : List ℕ → List ℕ

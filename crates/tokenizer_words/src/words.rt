@@ -14,6 +14,7 @@ ghost use Rattle.tokenizer_words.specs.Words.{
   pastedIn,
   flag,
   heldWords,
+  heldBy,
   partWords,
   frontWords,
   storedIn,
@@ -34,15 +35,12 @@ pub fn is_readable(w: &[usize]) -> bool
     (w[2] <= 1) & ((w[3] <= 1) & ((w[4] <= 1) & (w[5] <= 1)))
 }
 
-pub(crate) fn held_in(w: &[usize]) -> Held
-    requires { ⌜ tokenizerSize ≤ length (now w) ⌝ }
-    ensures { λ r. ⌜ r ≡ stateIn (now (w .entry)) .held ⌝ }
+// What is held, by its three words.
+pub fn held_by(held: usize, start: usize, end: usize) -> Held
+    ensures { λ r. ⌜ r ≡ heldBy held start end ⌝ }
 {
-    if w[5] == 1 {
-        Held::At(Part {
-            start: w[6],
-            end: w[7],
-        })
+    if held == 1 {
+        Held::At(Part { start, end })
     } else {
         Held::Nothing
     }
@@ -72,7 +70,7 @@ pub fn load(w: &[usize]) -> State
     if w.len() < 137 {
         return State::new();
     }
-    let held = held_in(w);
+    let held = held_by(w[5], w[6], w[7]);
     let indents = indents_in(w);
     State {
         place: w[0],
@@ -95,7 +93,8 @@ pub fn flag_of(b: bool) -> usize
     if b { 1 } else { 0 }
 }
 
-pub(crate) fn held_words(h: Held) -> [usize; 3]
+// The words of what is held.
+pub fn held_words(h: Held) -> [usize; 3]
     ensures { λ r. ⌜ r ≡ heldWords h ⌝ }
 {
     match h {

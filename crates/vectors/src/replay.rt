@@ -87,7 +87,7 @@ fn tokens_agree(line: &[u8], s: &[u8], after: usize) -> bool {
     let mut words = [0usize; 137];
     let mut rows = [0usize; 3591];
     tokenizer_words::fresh(&mut words);
-    let n = tokenizer_words::tokenize(s, &mut words, &mut rows);
+    let n = step_words::tokenize(s, &mut words, &mut rows);
     rows_agree(line, after, &rows, n)
 }
 
@@ -95,7 +95,7 @@ fn parsing_agrees(line: &[u8], s: &[u8], after: usize) -> bool {
     let mut words = [0usize; 213];
     let mut rows = [0usize; 3591];
     parser_words::fresh_parser(&mut words);
-    let n = parser_words::parse(s, &mut words, &mut rows);
+    let n = step_words::parse(s, &mut words, &mut rows);
     rows_agree(line, after, &rows, n)
 }
 

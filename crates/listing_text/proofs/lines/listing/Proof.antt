@@ -7,7 +7,7 @@ use Rattle.parser.specs.Step.{stepOf}
 use Rattle.parser.specs.Lists.{isEnd}
 use Rattle.parser_rules.specs.declared.ruling.Answer.the-variants.{Refused}
 use Rattle.parser.proofs.Valued.{values-injective}
-use Rattle.parser_claims.proofs.Rests.{rest}
+use Rattle.parser_claims.specs.Rests.{rest}
 use Rattle.listing_text.specs.Listing.{header, answerText}
 use Rattle.listing_text.proofs.Placing.{Wrote, wrote, both, placed-length}
 use Rattle.listing_text.proofs.Turns.{told, Turn, start, ended, fewer, row-fits, next, over, listed}

@@ -3,7 +3,7 @@ use mathlib.Core.Path.{sym}
 use native.Mathlib.Omega.{arith}
 use lib.ListN.{length}
 use borrow.Author.Needs.{needs}
-use Rattle.parser_claims.proofs.Rests.{rest}
+use Rattle.parser_claims.specs.Rests.{rest}
 use Rattle.look_up.proofs.Searched.{look-up-over}
 use Rattle.look_up.proofs.Searching.{Searching, begins, may-come, finds, falls, goes-on}
 use Rattle.look_up.proofs.search.look_up.Statement.{statement}

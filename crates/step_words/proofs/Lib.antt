@@ -1,0 +1,14 @@
+pub mod Fronts
+pub mod Rulings
+pub mod Judgements
+pub mod Agreeing
+pub mod Putting
+pub mod Coming
+pub mod Going
+pub mod Branches
+pub mod Taking
+pub mod Single
+pub mod Whole
+pub mod Laws
+pub mod Following
+pub mod Batching

@@ -1,0 +1,93 @@
+-- Intermediate, tied to the law by proofs/Agreeing and Putting: what a judgement of the parser's leaves, and its words.
+use Prim.Native.Nat.{ℕ, _+_, _≤_}
+use mathlib.Core.List.{List, [], _∷_, _++_}
+use mathlib.Core.Bool.{true, false, cond}
+use lib.Dec.{eqb}
+use lib.ListN.{set}
+use Rattle.tokenizer.specs.Token.{bare}
+use Rattle.tokenizer.specs.Front.{saidBy}
+use Rattle.tokenizer.specs.declared.front.Said.{Said}
+use Rattle.parser_rules.specs.declared.judging.Judged.{Judged}
+use Rattle.parser_rules.specs.declared.judging.Judged.the-variants.{
+  GivesOn,
+  NoValue,
+  Opens,
+  Closes,
+  Map,
+  List as Listed,
+  Hint,
+  Value,
+  Passes,
+  Refuses,
+  RefusesEntry,
+  End,
+  Unfit,
+}
+use Rattle.parser_rules.specs.declared.ruling.Sort.the-variants as sort
+use Rattle.parser_rules.specs.declared.ruling.Change.{Change}
+use Rattle.parser_rules.specs.declared.ruling.Change.the-variants.{Keep, Fix, Open, Close}
+use Rattle.parser.specs.Step.{countAfter}
+use Rattle.tokenizer_words.specs.Words.{pastedIn, flag}
+use Rattle.tokenizer_words.specs.Rows.{rowBy}
+use Rattle.parser_words.specs.ParserWords.{sortWord}
+use Rattle.step_words.specs.declared.outcome.Outcome.{Outcome}
+
+abbrev pub nothing : Said
+nothing = saidBy (bare 0 0)
+
+-- a refusal's number is small
+abbrev pub Few : Judged → Type 0
+Few GivesOn = Unit {0}
+Few NoValue = Unit {0}
+Few Opens = Unit {0}
+Few Closes = Unit {0}
+Few Map = Unit {0}
+Few Listed = Unit {0}
+Few Hint = Unit {0}
+Few Value = Unit {0}
+Few Passes = Unit {0}
+Few (Refuses k) = k ≤ 7
+Few RefusesEntry = Unit {0}
+Few End = Unit {0}
+Few Unfit = Unit {0}
+
+abbrev pub given : Said → ℕ → ℕ → Change → Outcome
+given s n l c = record { answer = s; refused = false; awaited = n; line = l; kept = nothing; change = c }
+
+abbrev pub denied : Said → ℕ → ℕ → Outcome
+denied s n l = record { answer = s; refused = true; awaited = n; line = l; kept = nothing; change = Keep }
+
+-- what is kept of what came: 11 for End
+abbrev pub keptBy : Said → Said
+keptBy s = cond (eqb (s .number) 0) (saidBy (bare 11 0)) s
+
+-- what a judgement leaves, s having come where n was awaited with the line l
+unfoldable pub outcomeBy : Judged → Said → ℕ → ℕ → Outcome
+outcomeBy GivesOn s n l = given s n l Keep
+outcomeBy NoValue s n l = record { answer = saidBy (bare 10 l); refused = false; awaited = 0; line = 0; kept = keptBy s; change = Keep }
+outcomeBy Opens s n l = given s 0 0 Open
+outcomeBy Closes s n l = given s 0 0 Close
+outcomeBy Map s n l = given s 1 (s .line) (Fix sort.Map)
+outcomeBy Listed s n l = given s 1 (s .line) (Fix sort.List)
+outcomeBy Hint s n l = given s 2 l Keep
+outcomeBy Value s n l = given s 0 0 Keep
+outcomeBy Passes s n l = denied s n l
+outcomeBy (Refuses k) s n l = denied (saidBy (bare (refusalNumber k) (s .line))) 0 0
+outcomeBy RefusesEntry s n l = denied (saidBy (bare (refusalNumber missingMultiline) l)) 0 0
+outcomeBy End s n l = given nothing 0 0 Keep
+outcomeBy Unfit s n l = denied (saidBy (bare (refusalNumber unfitState) 0)) 0 0
+
+-- the eleven middle words, n sections being open
+abbrev pub middleBy : Outcome → ℕ → List ℕ
+middleBy o n = flag (o .refused) ∷ o .awaited ∷ o .line ∷ (rowBy (o .kept) ++ (countAfter (o .change) n ∷ []))
+
+-- the words with a section's sort, n being open
+unfoldable pub sortPut : Change → ℕ → List ℕ → List ℕ
+sortPut Keep n w = w
+sortPut (Fix s) n w = set w (147 + n) (sortWord s)
+sortPut Open n w = set w (148 + n) 0
+sortPut Close n w = w
+
+-- the words with what a judgement leaves
+unfoldable pub outcomeIn : Outcome → ℕ → List ℕ → List ℕ
+outcomeIn o n w = sortPut (o .change) n (pastedIn (middleBy o n) 137 w)
