@@ -1,7 +1,7 @@
 // The lines of the stored answers: a tag, a space, `x` and the text's bytes in lower-case hexadecimal, then the answer's
 // numbers in decimal, each behind a space.
 ghost use Prim.Native.Nat.{_≤_};
-ghost use lib.ListN.{length};
+ghost use Rattle.io.specs.Counts.{Counts};
 
 // The text of a line, and where its numbers begin, or the line ends: 0 where the line can't be read.
 pub struct Text {
@@ -29,7 +29,7 @@ fn digit(b: u8) -> u8
 
 // A line that can't be read.
 fn no_text(bytes: [u8; 256]) -> Text
-    ensures { λ r. ⌜ r .len ≤ length (r .bytes) ⌝ }
+    ensures { λ r. ⌜ Counts (r .len) (r .bytes) ⌝ }
 {
     Text {
         bytes,
@@ -39,7 +39,7 @@ fn no_text(bytes: [u8; 256]) -> Text
 }
 
 pub fn text_of(line: &[u8]) -> Text
-    ensures { λ r. ⌜ r .len ≤ length (r .bytes) ⌝ }
+    ensures { λ r. ⌜ Counts (r .len) (r .bytes) ⌝ }
 {
     let mut bytes = [0u8; 256];
     let mut len = 0;
@@ -96,4 +96,27 @@ pub fn number_at(line: &[u8], at: usize) -> Number {
         i += 1;
     }
     Number { value, after: i }
+}
+
+// The bytes that stand as numbers behind the space at `at`, their count first.
+pub fn bytes_at(line: &[u8], at: usize) -> Text
+    ensures { λ r. ⌜ Counts (r .len) (r .bytes) ⌝ }
+{
+    let mut bytes = [0u8; 256];
+    let count = number_at(line, at);
+    let mut after = count.after;
+    let mut len = 0;
+    while len < count.value {
+        let n = number_at(line, after);
+        if 255 < n.value {
+            return no_text(bytes);
+        }
+        if 256 <= len {
+            return no_text(bytes);
+        }
+        bytes[len] = n.value as u8;
+        after = n.after;
+        len += 1;
+    }
+    Text { bytes, len, after }
 }

@@ -1,7 +1,12 @@
 // Replays the stored answers of the Rust, standard input (docs/DIFFERENCES.md says how they were made), against the
 // library, and writes how many of each kind were checked and where one differs.
+mod answers;
 mod lines;
+mod look_ups;
+mod readers;
+mod readings;
 mod replay;
+mod texts;
 
 ghost use mathlib.Core.Path.{_≡_};
 ghost use lib.ListN.{length};
@@ -33,9 +38,14 @@ fn main() {
     let t = replay::all(&space[..n]);
     print_count(b"UTF-8: ", t.utf8);
     print_count(b"trimming: ", t.trimming);
-    print_count(b"tokens: ", t.tokens);
-    print_count(b"parsing: ", t.parsing);
-    print_count(b"unescaping: ", t.unescaping);
+    print_count(b"names: ", t.names);
+    print_count(b"tokens, in a batch and by the reader: ", t.tokens);
+    print_count(
+        b"parsing, in a batch and by next over a lent state: ",
+        t.parsing,
+    );
+    print_count(b"unescaping, and plain parts: ", t.unescaping);
+    print_count(b"look-ups, and entries: ", t.look_ups);
     print_count(b"unreadable lines: ", t.unreadable);
     print_count(b"differences: ", t.differences);
     if 0 < t.differences {

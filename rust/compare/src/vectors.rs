@@ -4,6 +4,7 @@
 
 use crate::answers::{self, Text};
 use crate::documents::any;
+use crate::look_ups;
 use crate::parses::parses;
 use crate::random::Random;
 use crate::structured;
@@ -12,7 +13,7 @@ use crate::tokens::tokens;
 use crate::trimming::trimmed;
 use crate::unescaping::QUOTED;
 use crate::utf8::is_valid;
-use conl::port::{Row, Trim};
+use conl::port::{Found, Row, Trim};
 use original::Token;
 use std::collections::BTreeSet;
 
@@ -24,6 +25,9 @@ const RANDOM_BYTES: usize = 64;
 /// How many documents are kept, and how many bytes one may have.
 const DOCUMENTS: usize = 2_000;
 const DOCUMENT_BYTES: usize = 256;
+
+/// In one of how many documents a key is looked up.
+const LOOK_UPS: usize = 3;
 
 /// How many values and multiline values are kept, and how many pieces a random one may have.
 const VALUES: usize = 500;
@@ -154,12 +158,21 @@ pub fn sample() -> String {
             lines += &line(tag, text, &[part.start, part.end]);
         }
     }
+    for token in every_kind() {
+        let number = answers::row(b"", &token).number;
+        lines += &line("n", token.name().as_bytes(), &[number]);
+    }
     let documents = documents();
     for document in &documents {
         lines += &line("t", document, &numbers(&tokens(document)));
     }
     for document in &documents {
         lines += &line("p", document, &numbers(&parses(document)));
+    }
+    for (place, document) in documents.iter().step_by(LOOK_UPS).enumerate() {
+        let answers = look_ups::by_original(document, usize::MAX);
+        let (wanted, found) = &answers[place % answers.len()];
+        lines += &line("e", document, &looked_up(wanted, found));
     }
     let random = &mut Random::new();
     for text in values(random) {
@@ -198,10 +211,38 @@ fn unescaped(document: &str, token: &Token) -> Vec<usize> {
     }
 }
 
+/// The key's length and its bytes; then whether there is nothing (0), an entry (1) or a refusal (2),
+/// a refusal's number, the key's or the refusal's line, and where the entry starts and ends.
+fn looked_up(wanted: &[u8], found: &Found) -> Vec<usize> {
+    let answer = match *found {
+        Found::Nothing => [0, 0, 0, 0, 0],
+        Found::At { line, ref range } => [1, 0, line, range.start, range.end],
+        Found::Refused { number, line } => [2, number, line, 0, 0],
+    };
+    let wanted_bytes = wanted.iter().map(|&byte| usize::from(byte));
+    let numbers = [wanted.len()].into_iter().chain(wanted_bytes);
+    numbers.chain(answer).collect()
+}
+
 /// A tag, the text's bytes and the answer's numbers, as the program `vectors` reads them.
 fn line(tag: &str, text: &[u8], numbers: &[usize]) -> String {
     let numbers: String = numbers.iter().map(|number| format!(" {number}")).collect();
     format!("{tag} {}{numbers}\n", hex(text))
+}
+
+fn every_kind() -> [Token<'static>; 10] {
+    [
+        Token::Newline(1),
+        Token::Comment(1, ""),
+        Token::Indent(1),
+        Token::Outdent(1),
+        Token::ListItem(1),
+        Token::MapKey(1, ""),
+        Token::Value(1, ""),
+        Token::MultilineHint(1, ""),
+        Token::MultilineValue(1, "", ""),
+        Token::NoValue(1),
+    ]
 }
 
 fn documents() -> BTreeSet<Vec<u8>> {

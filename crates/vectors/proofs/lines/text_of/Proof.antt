@@ -3,6 +3,7 @@ use native.Mathlib.Omega.{arith}
 use Prim.Native.Nat.{_-_, _≤_}
 use lib.ListN.{length, length-set}
 use mathlib.Core.Path.{_≡_, _∙_}
+use Rattle.io.proofs.Counting.{counts}
 use borrow.Author.Needs.{needs}
 use Rattle.vectors.proofs.lines.text_of.Statement.{statement}
 use Rattle.vectors.proofs.lines.text_of.Tie as tie
@@ -20,7 +21,7 @@ shared-slice-read-if1 : tie.Need-shared-slice-read-if1 Inv-loop μ-loop
 shared-slice-read-if1 c = search needs
 
 returns : tie.Need-returns Inv-loop μ-loop
-returns c = search needs
+returns c = counts _ _ (omega arith)
 
 add-if2 : tie.Need-add-if2 Inv-loop μ-loop
 add-if2 c = search needs
@@ -89,7 +90,7 @@ loop-again c =
     (omega arith, rw length-set h)
 
 returns-6 : tie.Need-returns-6 Inv-loop μ-loop
-returns-6 c = search needs
+returns-6 c = counts _ _ (omega arith)
 
 pub text-of-spec : {M : Type 1} → statement M
 text-of-spec =

@@ -1,8 +1,8 @@
 -- `words_after` is safe: a word is read behind a test. Measure: the numbers left.
 use Prim.Native.Nat.{_-_, _≤_}
 use borrow.Author.Needs.{needs}
-use Rattle.vectors.proofs.replay.words_after.Statement.{statement}
-use Rattle.vectors.proofs.replay.words_after.Tie as tie
+use Rattle.vectors.proofs.answers.words_after.Statement.{statement}
+use Rattle.vectors.proofs.answers.words_after.Tie as tie
 
 abbrev Inv-loop : tie.InvT-loop
 Inv-loop line at words from count end₀ j₀ end j = j ≤ count

@@ -1,8 +1,8 @@
 -- `rows_agree` is safe: at most a thousand rows are compared. Measure: the rows left of these.
 use Prim.Native.Nat.{_-_, _≤_}
 use borrow.Author.Needs.{needs}
-use Rattle.vectors.proofs.replay.rows_agree.Statement.{statement}
-use Rattle.vectors.proofs.replay.rows_agree.Tie as tie
+use Rattle.vectors.proofs.readings.rows_agree.Statement.{statement}
+use Rattle.vectors.proofs.readings.rows_agree.Tie as tie
 
 abbrev Inv-loop : tie.InvT-loop
 Inv-loop line after rows n at₀ i₀ at i = i ≤ 1000

@@ -2,8 +2,8 @@
 use Prim.Native.Nat.{_-_, _≤_}
 use native.Mathlib.Omega.{arith}
 use borrow.Author.Needs.{needs}
-use Rattle.vectors.proofs.replay.bytes_agree.Statement.{statement}
-use Rattle.vectors.proofs.replay.bytes_agree.Tie as tie
+use Rattle.vectors.proofs.answers.bytes_agree.Statement.{statement}
+use Rattle.vectors.proofs.answers.bytes_agree.Tie as tie
 
 abbrev Inv-loop : tie.InvT-loop
 Inv-loop line at bytes n end₀ i₀ end i = i ≤ n
