@@ -1,4 +1,5 @@
-// Lists a document: standard input of up to 65,536 bytes, listed on standard output. What goes wrong is told on standard error.
+// Lists a document: standard input of up to 65,536 bytes, listed on standard output. What goes wrong is told on
+// standard error.
 ghost use mathlib.Core.Path.{_≡_};
 ghost use Rattle.io.specs.Counts.{Counts};
 ghost use lib.ListN.{length};

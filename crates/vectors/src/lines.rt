@@ -1,5 +1,5 @@
-// The lines of the stored answers: a tag, a space, `x` and the text's bytes in lower-case hexadecimal, then the answer's
-// numbers in decimal, each behind a space.
+// The lines of the stored answers: a tag, a space, `x` and the text's bytes in lower-case hexadecimal, then the
+// answer's numbers in decimal, each behind a space.
 ghost use Prim.Native.Nat.{_≤_};
 ghost use Rattle.io.specs.Counts.{Counts};
 

@@ -1,4 +1,5 @@
-// The two thin readers, a step at a time: the parser's `next` over a lent state, and the tokenizer that holds its document.
+// The two thin readers, a step at a time: the parser's `next` over a lent state, and the tokenizer that holds its
+// document.
 use crate::answers::words_after;
 use parser::Answer;
 use parser::State;
@@ -19,7 +20,8 @@ fn refusal_after(line: &[u8], at: usize, n: usize, on: usize) -> usize {
     words_after(line, at, &row, 0, 6)
 }
 
-// Where the numbers from `at` on end, if they are the parser's answer; End has none. 0 where an answer before it differed.
+// Where the numbers from `at` on end, if they are the parser's answer, of which End has none; else 0, and 0 where an
+// answer before it differed.
 fn parsed_after(line: &[u8], at: usize, a: Answer) -> usize {
     if at == 0 {
         return 0;

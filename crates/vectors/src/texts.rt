@@ -37,8 +37,8 @@ pub fn name_agrees(line: &[u8], s: &[u8], after: usize) -> bool {
     is_last(line, kind) && is_padded(&bytes, name.len, s)
 }
 
-// Whether the numbers from `at` on are the answer for the row's token and, where its text is written, the bytes of this, which
-// is no longer than the token's.
+// Whether the numbers from `at` on are the answer for the row's token and, where its text is written, the bytes of
+// this, which is no longer than the token's.
 fn unescaping_agrees(line: &[u8], s: &[u8], at: usize, row: &[usize]) -> bool {
     let mut out = [0u8; 256];
     let mut answer = [0usize; 5];

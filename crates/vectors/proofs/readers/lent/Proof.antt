@@ -1,5 +1,5 @@
--- `lent` is safe: a walk of its MIR, by hand. The state is copied into a local, which is lent to `next` and comes back; what it
--- has then and the answer make a step. All that the proof knows of `next` is that it meets its contract.
+-- `lent` is safe: a walk of its MIR, by hand. The state is copied into a local, which is lent to `next` and comes
+-- back; what it has then and the answer make a step. All that the proof knows of `next` is that it meets its contract.
 -- Assumes nothing.
 use mathlib.Core.Path.{_≡_, refl, ap, subst}
 use Prim.Native.Nat.{ℕ}
@@ -152,12 +152,14 @@ module _ {M : Type 1} (𝓤 : URA M) (H : Heap 𝓤) (A : Atoms 𝓤) (W : Given
         -- [room for _6; …; _5; …; room for _4; …; _3; …; _2; …; _1; …; room for _0; …; the token; what is owned]
         move ! (6 ∷ []) $ use1 W (‵ (cellAt fullShare (R .mir) (mach h ∷ []) l₃ 0)) (W .laws .at-raw fullShare T′.mir l₃ 0 (mach h)) $
         owned ! R (Is R) (LL.makes T.the-type T′.the-plain 𝓤 H A) h _ g $ move ! (1 ∷ 0 ∷ []) $ lft-new ! tt (λ ν. move ! (1 ∷ 2 ∷ []) $ lends ! tt R (ν ∷ []) h (mach h ∷ []) l₃ 0 (λ δ.
-        -- [what is lent; the lender's part; its token; room for _6; …; _5; …; room for _4; …; …; _2; …; _1; …; room for _0; …; the token; what is owned]
+        -- [what is lent; the lender's part; its token; room for _6; …; _5; …; room for _4; …; …; _2; …; _1; …; room for
+        -- _0; …; the token; what is owned]
         move ! (2 ∷ 16 ∷ []) $ join ! $ move ! (0 ∷ 1 ∷ 16 ∷ []) $ use3 W (raw (NextBy 𝓤 H A at-mem run .pre (to l₃ ν δ)) ⊛ ‵ Own) (goes l₃ ν δ) $ split ! $
         calls-at ! fm (NextBy 𝓤 H A at-mem run) known (to l₃ ν δ) (and-then ! (load ! (from ! (stop !)) (look ! 5 refl)) (and-then ! (load ! (from ! (stop !)) (look ! 10 refl)) (no-more !))) (λ w.
         use1 W (later (some (λ (r : Answer). ((‵ (flft (ν ∷ []) fullShare) ⊛ ‵ (flft κ q) ⊛ ‵ ftrue) ⊛ ‵ (N.the-row .own r (w ∷ []))) ⊛ raw (ensured 𝓤 H A next.ended (next.clauses 𝓤 H A at-mem run) (ν ∷ [], (κ, tt)) (args l₃ δ) tt r)))) (id⊢ 𝓤 _) $ await ! tt $ pick ! (λ r.
         split ! $ move ! (1 ∷ []) $ use1 W (some (λ (t : State). ‵ (fres δ (R .coded .code t)))) (told l₃ ν δ r) $ pick ! (λ t. move ! (1 ∷ []) $ split ! $ move ! (1 ∷ []) $
-        -- [the answer; the tokens; the last state; doc's; the lender's part; room for _6; …; _5; …; room for _4; …; …; _2; …; _1; …; room for _0; …]
+        -- [the answer; the tokens; the last state; doc's; the lender's part; room for _6; …; _5; …; room for _4; …; …;
+        -- _2; …; _1; …; room for _0; …]
         peeks ! N.the-row (Is N.the-row) (shows 𝓤 H A N.the-row) r (w ∷ []) (λ is.
         land ! (from ! (stop !)) (init ! 9 refl (EL.lawful N.the-type N′.the-laws 𝓤 H A W tt .typed r _ is .0)) $
         rewrite ! 9 (λ (u : Val). ‵ (fat fullShare N′.mir l₄ 0 u)) (ap only (EL.tells N.the-type N′.the-laws r (w ∷ []) is)) refl $

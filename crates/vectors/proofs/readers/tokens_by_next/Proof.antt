@@ -1,7 +1,7 @@
--- `tokens_by_next` is safe: a walk of its MIR, by hand. `new` makes the reader, which is kept in a local; in each turn it is lent
--- to `next`, within the document's lifetime, and comes back, and the answer goes to `token_after`.
--- All that the proof knows of the three is that each meets its contract. Invariant: the local holds some reader of the document.
--- Variant: the turns left.
+-- `tokens_by_next` is safe: a walk of its MIR, by hand. `new` makes the reader, which is kept in a local; in each turn
+-- it is lent to `next`, within the document's lifetime, and comes back, and the answer goes to `token_after`. All that
+-- the proof knows of the three is that each meets its contract. Invariant: the local holds some reader of the
+-- document. Variant: the turns left.
 -- Assumes nothing.
 use mathlib.Core.Path.{_≡_, refl, ap, subst}
 use mathlib.Core.WellFounded.{WellFounded, InvImage·wf}
@@ -323,13 +323,15 @@ module _ {M : Type 1} (𝓤 : URA M) (H : Heap 𝓤) (A : Atoms 𝓤) (W : Given
           move ! (12 ∷ []) $ use1 W (‵ (cellAt fullShare (R κ′ .mir) (mach κ′ (z .held) ∷ []) l₄ 0)) (W .laws .at-raw fullShare (T′.mir erased) l₄ 0 (mach κ′ (z .held))) $
           move ! (24 ∷ []) $ use1 W (‵ (flft κ′ (PosShare·left q′)) ⊛ ‵ (flft κ′ (PosShare·right q′))) (W .lfts .lft-split κ′ q′) $ split ! $ lft-new ! tt (λ ν.
           use2 W (‵ (flft (ν ∷ κ′) (PosShare·left q′)) ⊛ raw (Rest 𝓤 H A W ν (PosShare·left q′))) (within-token 𝓤 H A W ν κ′ (PosShare·left q′)) $ split ! $
-          -- [the loan's token; what is left of it; the other half; _4; _10; …; …; _0; …; what _4 owns; the line's token; the line's; the document's]
+          -- [the loan's token; what is left of it; the other half; _4; _10; …; …; _0; …; what _4 owns; the line's
+          -- token; the line's; the document's]
           move ! (3 ∷ 25 ∷ []) $ lends ! tt (R κ′) (ν ∷ κ′) (z .held) (mach κ′ (z .held) ∷ []) l₄ 0 (λ δ.
           move ! (2 ∷ 4 ∷ 0 ∷ []) $ use3 W (raw (NextBy 𝓤 H A at-mem run .pre (to-next l₄ ν δ (z .held)))) (goes-next l₄ ν δ (z .held)) $
           calls-at ! fm (NextBy 𝓤 H A at-mem run) known-next (to-next l₄ ν δ (z .held)) (and-then ! (load ! (from ! (stop !)) (look ! 3 refl)) (no-more !)) (λ w.
           use1 W (later (some (λ (r : Answer). ((‵ (flft (ν ∷ κ′) (PosShare·left q′)) ⊛ ‵ (flft κ′ (PosShare·right q′)) ⊛ ‵ ftrue) ⊛ ‵ (N.the-row .own r (w ∷ []))) ⊛ raw (ensured 𝓤 H A next.ended (next.clauses 𝓤 H A at-mem run) (ν ∷ κ′, (κ′, tt)) (lent l₄ δ (z .held)) tt r)))) (id⊢ 𝓤 _) $ await ! tt $ pick ! (λ r.
           split ! $ move ! (1 ∷ []) $ use1 W (some (λ (t : Tokenizer). ‵ (fres δ (R κ′ .coded .code t)))) (told-next l₄ ν δ (z .held) r) $ pick ! (λ t. move ! (1 ∷ []) $ split ! $ move ! (1 ∷ []) $
-          -- [the answer; the tokens; the last reader; the lender's part; what is left of the loan's token; _10; …; …; _0; …; the line's token; the line's; the document's]
+          -- [the answer; the tokens; the last reader; the lender's part; what is left of the loan's token; _10; …; …;
+          -- _0; …; the line's token; the line's; the document's]
           peeks ! N.the-row (Is N.the-row) (shows 𝓤 H A N.the-row) r (w ∷ []) (λ is-r.
           land ! (from ! (stop !)) (init ! 11 refl (EL.lawful N.the-type N′.the-laws 𝓤 H A W tt .typed r _ is-r .0)) $
           rewrite ! 11 (λ (u : Val). ‵ (fat fullShare N′.mir l₇ 0 u)) (ap only (EL.tells N.the-type N′.the-laws r (w ∷ []) is-r)) refl $
@@ -339,12 +341,14 @@ module _ {M : Type 1} (𝓤 : URA M) (H : Heap 𝓤) (A : Atoms 𝓤) (W : Given
           use1 W (‵ (fat fullShare (T′.mir erased) l₄ 0 (mach κ′ t))) (W .laws .raw-at fullShare (T′.mir erased) l₄ 0 (mach κ′ t)) $
           move ! (1 ∷ []) $ peeks ! (R κ′) (Is (R κ′)) (shows 𝓤 H A (R κ′)) t (mach κ′ t ∷ []) (λ is-t.
           move ! (3 ∷ []) $ split ! $ move ! (4 ∷ 0 ∷ []) $ use2 W (‵ (flft κ′ q′)) (W .lfts .lft-join κ′ q′) $
-          -- [the document's token; true; what _4 owns; _4; _10; …; …; _0; …; the line's token; the line's; the document's]
+          -- [the document's token; true; what _4 owns; _4; _10; …; …; _0; …; the line's token; the line's; the
+          -- document's]
           move ! (25 ∷ 26 ∷ []) $ use2 W (raw (AfterBy 𝓤 H A at-mem run .pre (to-after (z .at) r)) ⊛ ‵ OwnD) (goes-after (z .at) r (z .fits) (said-is r w is-r)) $ split ! $
           calls-at ! fm (AfterBy 𝓤 H A at-mem run) known-after (to-after (z .at) r) (and-then ! (load ! (from ! (stop !)) (look ! 23 refl)) (and-then ! (load ! (from ! (stop !)) (look ! 16 refl)) (and-then ! (load ! (from ! (stop !)) (look ! 12 refl)) (no-more !)))) (λ u.
           use1 W (later (some (λ (m : ℕ). ((‵ (flft κ q) ⊛ ‵ ftrue) ⊛ ‵ (usize .own m (u ∷ []))) ⊛ raw (ensured 𝓤 H A after.ended (after.clauses 𝓤 H A at-mem run) (κ, tt) (d, (z .at, (r, tt))) tt m)))) (id⊢ 𝓤 _) $ await ! tt $ pick ! (λ m.
           split ! $ move ! (1 ∷ []) $ drop ! $ split ! $ move ! (1 ∷ []) $ peeks ! usize (Is usize) (shows 𝓤 H A usize) m (u ∷ []) (λ is-m.
-          -- [the place; the line's token; the line's; the document's token; true; what _4 owns; _4; _10; …; …; _0; …; the document's]
+          -- [the place; the line's token; the line's; the document's token; true; what _4 owns; _4; _10; …; …; _0; …;
+          -- the document's]
           land ! (from ! (stop !)) (store ! 17 refl (uint-lawful 𝓤 H A W w64 .typed m _ is-m .0)) $ rewrite ! 17 (λ (v : Val). ‵ (fat fullShare word l₅ 0 v)) (ap only (is-m .0)) refl $
           drop ! $ split ! $
           assigns-last ! (bin ! (load ! (from ! (stop !)) (look ! 15 refl)) (lit ! tt) (record { fits = up })) (from ! (stop !)) (store ! 15 refl (tt, record { fits = up })) $
@@ -417,7 +421,8 @@ module _ {M : Type 1} (𝓤 : URA M) (H : Heap 𝓤) (A : Atoms 𝓤) (W : Given
           assigns ! (of-opd ! (load ! (from ! (stop !)) (look ! 20 refl))) (from ! (stop !)) (init ! 16 refl (tt, record { fits = n-fits })) $
           assigns ! (of-opd ! (lit ! tt)) (from ! (stop !)) (init ! 14 refl (tt, record { fits = lit< tt })) $
           forget ! 10 refl $ forget ! 20 refl $ forget ! 22 refl $ move ! (1 ∷ []) $ split ! $
-          -- [the document's token; true; the reader; the document's; true; the line's token; the line's; _10; …; …; _0; …]
+          -- [the document's token; true; the reader; the document's; true; the line's token; the line's; _10; …; …; _0;
+          -- …]
           keep ! (7 ∷ 8 ∷ 9 ∷ 10 ∷ 11 ∷ 12 ∷ 13 ∷ 14 ∷ 15 ∷ 16 ∷ 17 ∷ 18 ∷ 19 ∷ 20 ∷ 21 ∷ 22 ∷ 23 ∷ 24 ∷ 25 ∷ 26 ∷ 27 ∷ 28 ∷ 2 ∷ 5 ∷ 0 ∷ 6 ∷ 3 ∷ []) $
           repeats (record { turns = 0; below = zero-le; at = n; fits = n-fits; held = t; is = held-is t u is }))))
 
