@@ -30,7 +30,7 @@ use Rattle.parser_words.proofs.Tests.{has-213}
 use Rattle.step_words.specs.Stepping.{Gone, stepIn, stepping, lastOf}
 use Rattle.step_words.specs.Claims.{Whole}
 use Rattle.step_words.specs.declared.step.Layer.the-variants.{Tokenizer as Tokens, Parser as Parses}
-use Rattle.step_words.proofs.Coming.{kinds}
+use Rattle.parser_words.proofs.Back.{kinds}
 use Rattle.step_words.proofs.Going.{sections-65, slots-in}
 use Rattle.step_words.proofs.Taking.{last-none}
 use Rattle.step_words.proofs.Single.{not-unfit}

@@ -173,7 +173,8 @@ reads d s w e h =
 pub fresh-reads : FreshReads
 unfolding freshParserIn
 fresh-reads d w h =
-    let e : freshParserIn w ≡ parserWords fresh = rw (le-leb 213 (length w) (omega (arith, h)), ← h, drop-length, append-nil) in
+    let z : drop 213 w ≡ [] = subst (λ n. drop n w ≡ []) h (drop-length w) in
+    let e : freshParserIn w ≡ parserWords fresh = rw (le-leb 213 (length w) (omega (arith, h)), z, append-nil) in
     reads d fresh (freshParserIn w) e (fresh-whole d)
 
 pub next-steps : NextSteps

@@ -4,7 +4,8 @@ use mathlib.Core.List.{List, [], _∷_, _++_}
 use mathlib.Core.Bool.{true, false, cond}
 use lib.Dec.{eqb}
 use lib.ListN.{set}
-use Rattle.tokenizer.specs.Token.{bare}
+use Rattle.text.specs.Numbers.{missingMultiline, unfitState}
+use Rattle.tokenizer.specs.Token.{bare, refusalNumber}
 use Rattle.tokenizer.specs.Front.{saidBy}
 use Rattle.tokenizer.specs.declared.front.Said.{Said}
 use Rattle.parser_rules.specs.declared.judging.Judged.{Judged}
