@@ -1,2 +1,3 @@
 pub mod Texts
+pub mod Given
 pub mod Found

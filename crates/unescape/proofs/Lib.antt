@@ -4,3 +4,4 @@ pub mod Turns
 pub mod Writing
 pub mod Delivery
 pub mod Ruling
+pub mod Given
