@@ -11,6 +11,7 @@ ghost use Rattle.tokenizer_words.specs.Rows.{batchOf};
 ghost use Rattle.parser_words.specs.ParserWords.{parserSize, freshParserIn};
 ghost use Rattle.parser_words.specs.Parsing.{parseBatchOf};
 ghost use Rattle.answer_words.specs.Texts.{textOf};
+ghost use Rattle.answer_words.specs.Given.{givenTextOf};
 ghost use Rattle.answer_words.specs.Found.{foundIn};
 ghost use Rattle.abi.specs.Lent.{whichOf, partIn};
 ghost use Rattle.abi.specs.Version.{version};
@@ -117,6 +118,25 @@ pub extern "C" fn conl_unescape(
     ensures { λ r. ⌜ now (answer .exit) ≡ textOf (now (doc .entry)) (now (row .entry)) (now (out .entry)) (now (answer .entry)) .words ⌝ }
 {
     answer_words::unescape(doc, row, out, answer)
+}
+
+// Unescapes the text of a token, given the token's kind, line and indentation, and writes the answer at the front of its
+// words as conl_unescape does, with places counted from the text's start. False, with nothing written, where kind is not 1
+// to 10 or there are fewer than five words for the answer.
+#[no_mangle]
+pub extern "C" fn conl_unescape_text(
+    kind: usize,
+    line: usize,
+    text: &[u8],
+    indent: &[u8],
+    out: &mut [u8],
+    answer: &mut [usize],
+) -> bool
+    ensures { λ r. ⌜ r ≡ givenTextOf kind line (now (text .entry)) (now (indent .entry)) (now (out .entry)) (now (answer .entry)) .result ⌝ }
+    ensures { λ r. ⌜ now (out .exit) ≡ givenTextOf kind line (now (text .entry)) (now (indent .entry)) (now (out .entry)) (now (answer .entry)) .buffer ⌝ }
+    ensures { λ r. ⌜ now (answer .exit) ≡ givenTextOf kind line (now (text .entry)) (now (indent .entry)) (now (out .entry)) (now (answer .entry)) .words ⌝ }
+{
+    answer_words::unescape_text(kind, line, text, indent, out, answer)
 }
 
 // Looks up the first top-level key with the bytes of wanted, and writes the answer at the front of its words: 0, 0, 0,

@@ -6,7 +6,7 @@ use unescape::Answer;
 ghost use mathlib.Core.Path.{_≡_};
 ghost use Rattle.answer_words.specs.Texts.{answerWords, isToken, hasAnswer, textOf};
 
-fn answer_words(a: Answer) -> [usize; 5]
+pub(crate) fn answer_words(a: Answer) -> [usize; 5]
     ensures { λ r. ⌜ r ≡ answerWords a ⌝ }
 {
     match a {

@@ -1,20 +1,20 @@
 -- Demand 3, clause 2: a token of a reading unescapes alike in P then S and, unraised, in P or S alone. Its text's bytes are the
 -- same, so its meaning is; only the place and the line at which it is delivered differ.
-use Prim.Native.Nat.{ℕ, suc, _+_, _-_, _≤_}
-use mathlib.Core.Path.{_≡_, refl, sym, ap, _∙_}
+use Prim.Native.Nat.{ℕ, _+_, _-_, _≤_}
+use mathlib.Core.Path.{_≡_, refl, _∙_}
 use mathlib.Core.List.{List, [], _∷_, _++_}
-use mathlib.Core.Bool.{Bool, true, false, cond, _&&_}
+use mathlib.Core.Bool.{true}
 use native.Mathlib.Omega.{arith}
 use native.Mathlib.Nat.{add-assoc, zero-add}
-use lib.Dec.{eqb, leb, ltb}
-use lib.ListN.{length, take, drop, length-append, length-take}
-use borrow.Author.Tests.{le-ltb, le-leb, leb-true}
+use lib.Dec.{leb}
+use lib.ListN.{length, drop, length-append, length-take}
+use borrow.Author.Tests.{le-ltb, le-leb}
 use Rattle.text.specs.Utf8.{utf8, owes}
 use Rattle.text.specs.declared.bytes.Part.{Part}
-use Rattle.text.proofs.Cases.{by-bool, on-cond, and-left}
+use Rattle.text.proofs.Cases.{by-bool}
 use Rattle.tokenizer.specs.Token.{lineOf}
 use Rattle.tokenizer.specs.Lists.{tokens}
-use Rattle.tokenizer.specs.Step.{bytesOf, noPart, fitPart}
+use Rattle.tokenizer.specs.Step.{bytesOf, noPart}
 use Rattle.tokenizer.specs.declared.token.Token.{Token}
 use Rattle.tokenizer.specs.declared.token.Token.the-variants.{
   Newline,
@@ -32,31 +32,13 @@ use Rattle.tokenizer.specs.declared.state.Answer.{Answer as Came}
 use Rattle.tokenizer.specs.declared.state.Answer.the-variants as came
 use Rattle.tokenizer_claims.specs.Claims.{Text, TokenFits, Fits, All}
 use Rattle.tokenizer_claims.proofs.Claimed.{fit as reading-fit}
-use Rattle.text.specs.Bytes.{countWhile, notBreak, shiftedBy}
-use Rattle.text.specs.Scalar.{isScalar, encoding}
-use Rattle.unescape_pieces.specs.Codes.{codeOf, simpleOf}
-use Rattle.unescape_pieces.specs.Meaning.{
-  Meaning,
-  part,
-  bytes,
-  code,
-  refused,
-  written,
-  Mode,
-  plain,
-  escape,
-  brace,
-  closed,
-  quoted,
-  simplyQuoted,
-  entryMeaning,
-  blockMeaning,
-  meaning,
-}
+use Rattle.text.specs.Bytes.{shiftedBy}
+use Rattle.unescape_pieces.specs.Meaning.{Meaning, part, bytes, code, refused, meaning}
 use Rattle.unescape_pieces.specs.Source.{sourceAt, sourceOf, sound}
 use Rattle.unescape_pieces.specs.declared.source.Style.{Style}
 use Rattle.unescape_pieces.specs.declared.source.Style.the-variants.{AsIs, Entry, Block}
 use Rattle.unescape_pieces.specs.declared.source.Source.{Source}
+use Rattle.unescape_pieces.proofs.Proper.{Proper, meaning-proper}
 use Rattle.unescape.specs.Unescape.{Unescaped, delivered, meaningIn, unescapeOf}
 use Rattle.unescape.specs.declared.Answer.{Answer}
 use Rattle.unescape.specs.declared.Answer.the-variants.{Plain, Written, Refused}
@@ -98,56 +80,6 @@ unescaped : (d : List ℕ) (t : Token) (o : List ℕ) → length d ≤ 16777216 
 unfolding unescapeOf deliver
 unescaped d t o l f =
     rw (le-ltb 16777216 (length d) l, text-sound d (sourceOf t .text) (f .0), text-sound d (sourceOf t .indent) (f .1))
-
--- A meaning's part lies within its text; no refusal but an invalid code is 8, and none is 13
-
-abbrev Proper : ℕ → Meaning → Type 0
-Proper n (part a e) = (a ≤ e) × (e ≤ n)
-Proper n (bytes w) = Unit {0}
-Proper n (code a e) = Unit {0}
-Proper n (refused r) = (eqb r 8 ≡ false) × (eqb r 13 ≡ false)
-
-written-proper : (n : ℕ) (w : List ℕ) (m : Meaning) → Proper n m → Proper n (written w m)
-written-proper n w (part a e) h = h
-written-proper n w (bytes l) h = tt
-written-proper n w (code a e) h = tt
-written-proper n w (refused r) h = h
-
-closed-proper : (n : ℕ) (r : List ℕ) → Proper n (closed r)
-closed-proper n [] = tt
-closed-proper n (b ∷ r) = (refl, refl)
-
-quoted-proper : (n : ℕ) (l : List ℕ) (m : Mode) (k : ℕ) → Proper n (quoted l m k)
-unfolding quoted
-quoted-proper n [] plain k = (refl, refl)
-quoted-proper n [] (escape s) k = (refl, refl)
-quoted-proper n [] (brace s h) k = tt
-quoted-proper n (b ∷ r) plain k =
-    on-cond (Proper n) (eqb b 34) (λ e. closed-proper n r)
-    (λ e. on-cond (Proper n) (eqb b 92) (λ f. quoted-proper n r (escape k) (k + 1)) (λ f. written-proper n (b ∷ []) (quoted r plain (k + 1)) (quoted-proper n r plain (k + 1))))
-quoted-proper n (b ∷ r) (escape s) k =
-    on-cond (Proper n) (eqb b 123) (λ e. quoted-proper n r (brace s []) (k + 1))
-    (λ e. on-cond (Proper n) (eqb (simpleOf b) 0) (λ f. tt) (λ f. written-proper n (simpleOf b ∷ []) (quoted r plain (k + 1)) (quoted-proper n r plain (k + 1))))
-quoted-proper n (b ∷ r) (brace s h) k =
-    on-cond (Proper n) (eqb b 125)
-    (λ e. on-cond (Proper n) (isScalar (codeOf h)) (λ f. written-proper n (encoding (codeOf h)) (quoted r plain (k + 1)) (quoted-proper n r plain (k + 1))) (λ f. tt))
-    (λ e. on-cond (Proper n) (eqb b 34) (λ f. tt) (λ f. quoted-proper n r (brace s (h ++ b ∷ [])) (k + 1)))
-
-entry-proper : (s : List ℕ) → Proper (length s) (entryMeaning s)
-unfolding entryMeaning simplyQuoted
-entry-proper [] = (omega arith, omega arith)
-entry-proper (b ∷ r) =
-    on-cond (Proper (suc (length r))) (eqb b 34)
-    (λ e. on-cond (Proper (suc (length r))) (simplyQuoted (b ∷ r))
-    (λ f. (omega (arith, leb-true 2 (suc (length r)) (and-left (leb 2 (suc (length r))) _ f)), omega arith))
-    (λ f. quoted-proper (suc (length r)) r plain 1))
-    (λ e. (omega arith, omega arith))
-
-meaning-proper : (r : Style) (s i : List ℕ) → Proper (length s) (meaning r s i)
-unfolding meaning blockMeaning
-meaning-proper AsIs s i = (omega arith, omega arith)
-meaning-proper Entry s i = entry-proper s
-meaning-proper Block s i = on-cond (Proper (length s)) (eqb (countWhile notBreak s) (length s)) (λ e. (omega arith, omega arith)) (λ e. tt)
 
 -- One meaning, delivered at two places
 

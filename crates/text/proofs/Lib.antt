@@ -4,6 +4,7 @@ pub mod Front
 pub mod Scan
 pub mod Ends
 pub mod Prefix
+pub mod Skipped
 pub mod Rows
 pub mod Scalars
 pub mod Trimmed

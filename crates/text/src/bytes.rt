@@ -1,3 +1,4 @@
+use text_scans::same_eights;
 ghost use mathlib.Core.Path.{_≡_};
 ghost use Rattle.text.specs.Bytes.{isBlank, isBreak, firstOf, breakSize, lineEnd, startsWith};
 
@@ -77,7 +78,7 @@ pub fn starts_with(s: &[u8], p: &[u8]) -> bool
     if s.len() < p.len() {
         return false;
     }
-    let mut i = 0;
+    let mut i = same_eights(s, p);
     while i < p.len() {
         if s[i] != p[i] {
             return false;

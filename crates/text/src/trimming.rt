@@ -1,6 +1,7 @@
 use crate::bytes::Part;
 use crate::bytes::is_newline;
 use crate::bytes::is_whitespace;
+use text_scans::space_eights;
 ghost use mathlib.Core.Path.{_≡_};
 ghost use Rattle.text.specs.Bytes.{countWhile};
 ghost use Rattle.text.specs.Trimming.{dropped, keptEnd, trimmed};
@@ -20,11 +21,11 @@ fn drops(which: Dropped, b: u8) -> bool
     }
 }
 
-// How many dropped bytes s begins with.
+// How many dropped bytes s begins with. Each kind drops spaces, so eights of them may be passed first.
 pub fn leading(which: Dropped, s: &[u8]) -> usize
     ensures { λ r. ⌜ r ≡ countWhile (dropped which) (now (s .entry)) ⌝ }
 {
-    let mut i = 0;
+    let mut i = space_eights(s);
     while i < s.len() {
         if !drops(which, s[i]) {
             return i;

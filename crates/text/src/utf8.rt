@@ -1,5 +1,6 @@
 use crate::bytes::First;
 use crate::bytes::first_of;
+use text_scans::ascii_eights;
 ghost use mathlib.Core.Path.{_≡_};
 ghost use Rattle.text.specs.Utf8.{leadOf, followed, charLen, utf8};
 
@@ -69,11 +70,12 @@ pub fn char_len(s: &[u8]) -> usize
     }
 }
 
-// A byte of the table's first row is a character by itself: for these there is a short way, past the table.
+// A byte of the table's first row is a character by itself: for these there is a short way, past the table, and a
+// shorter one for eights of them in front.
 pub fn is_utf8(s: &[u8]) -> bool
     ensures { λ r. ⌜ r ≡ utf8 (now (s .entry)) ⌝ }
 {
-    let mut i = 0;
+    let mut i = ascii_eights(s);
     while i < s.len() {
         if s[i] < 0x80 {
             i += 1;

@@ -7,3 +7,4 @@ pub mod Ruling
 pub mod Examples
 pub mod Entries
 pub mod Shorter
+pub mod Given

@@ -1,3 +1,4 @@
 pub mod Unescape
 pub mod Walk
+pub mod Texts
 pub mod Claims

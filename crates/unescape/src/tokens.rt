@@ -21,14 +21,14 @@ ghost use Rattle.unescape.specs.Unescape.{refusal, delivered, unescapeOf
 ghost use Rattle.unescape.specs.Walk.{plainBy};
 
 // A refusal that shows no part.
-fn refuse(number: usize, line: usize) -> Answer
+pub(crate) fn refuse(number: usize, line: usize) -> Answer
     ensures { λ r. ⌜ r ≡ refusal number line ⌝ }
 {
     Answer::Refused(number, line, Part { start: 0, end: 0 })
 }
 
 // A text that starts at `from`, as it is read. It is measured before it is written, so that a refusal leaves the buffer alone.
-fn deliver(
+pub(crate) fn deliver(
     style: Style,
     s: &[u8],
     indent: &[u8],

@@ -5,3 +5,4 @@ pub mod Broken
 pub mod Firsts
 pub mod Walking
 pub mod Starts
+pub mod Proper

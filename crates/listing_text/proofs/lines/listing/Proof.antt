@@ -31,7 +31,8 @@ onward : (c : tie.Else2 Inv-loop μ-loop)
     → let l = c .before .before .before .before in
     isEnd (stepOf (l .before .before .before .before .before .before .before .before .before .before .args .doc .now) (l .loop .state) .answer) ≡ false
 onward c =
-    let step = c .before .before .before .step in
+    let step′ = c .before .before .before .step in
+    let step = step′ in
     told _ _ (step .ensures .0) (c .before .is-end .ensures) (c .if2 .left)
 
 slice-aggregate-put-text : tie.Need-slice-aggregate-put-text Inv-loop μ-loop
@@ -73,7 +74,8 @@ same-length-2 c =
 
 returns-2 : tie.Need-returns-2 Inv-loop μ-loop
 returns-2 c =
-    let step = c .before .before .before .step in
+    let step′ = c .before .before .before .step in
+    let step = step′ in
     let l = c .before .before .before .before in
     let h = begun (l .before .before .before .before .before) in
     let e = told _ _ (step .ensures .0) (c .before .is-end .ensures) (c .if2 .taken) in
@@ -81,7 +83,8 @@ returns-2 c =
 
 put-answer-requires : tie.Need-put-answer-requires Inv-loop μ-loop
 put-answer-requires c κs =
-    let loop-here = c .before .before .before .before .before .loop in
+    let loop-here′ = c .before .before .before .before .before .loop in
+    let loop-here = loop-here′ in
     row-fits _ _ _ (loop-here .inv) (onward (c .before))
 
 loop-less : tie.Need-loop-less Inv-loop μ-loop

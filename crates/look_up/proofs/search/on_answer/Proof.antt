@@ -15,7 +15,8 @@ enum-known-a c = search needs
 
 on-token-requires : tie.Need-on-token-requires
 on-token-requires c κs =
-    let pre = c .before .before .before .before .before .pre in
+    let pre′ = c .before .before .before .before .before .pre in
+    let pre = pre′ in
     let h = pre in
     (h .0, rw (c .before .a .given .1) at (h .1))
 

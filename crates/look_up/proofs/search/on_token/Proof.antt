@@ -48,7 +48,8 @@ enum-known-t c = search needs
 
 on-key-requires : tie.Need-on-key-requires
 on-key-requires c κs =
-    let pre = c .before .before .before .before .before .pre in
+    let pre′ = c .before .before .before .before .before .pre in
+    let pre = pre′ in
     (rw (c .before .t .given .1) at (pre .1)) .within
 
 returns : tie.Need-returns

@@ -1,10 +1,11 @@
 -- `starts_with` compares byte by byte. Invariant: what is left of the text begins with what is left of p exactly where the
--- text begins with p. Measure: the bytes of p left.
+-- text begins with p; it holds where the equal eights end (proofs/Skipped). Measure: the bytes of p left.
 use Rattle.text.proofs.Prefix.{short, same, differs, all}
+use Rattle.text.proofs.Skipped.{common}
 use Rattle.text.specs.Bytes.{startsWith}
 use lib.ListN.{length, drop}
 use native.Mathlib.Omega.{arith}
-use mathlib.Core.Path.{_≡_, refl, sym, _∙_}
+use mathlib.Core.Path.{_≡_, sym, _∙_}
 use Prim.Native.Nat.{_-_, _≤_}
 use borrow.Author.Needs.{needs}
 use Rattle.text.proofs.bytes.starts_with.Statement.{statement}
@@ -19,8 +20,11 @@ abbrev μ-loop : tie.MeasureT-loop
 returns : tie.Need-returns Inv-loop μ-loop
 returns c = sym (short _ _ (c .if1 .taken))
 
+same-eights-requires : tie.Need-same-eights-requires Inv-loop μ-loop
+same-eights-requires c κs = search needs
+
 loop-holds : tie.Need-loop-holds Inv-loop μ-loop
-loop-holds c = (search needs, refl)
+loop-holds c = common _ _ _ (omega arith) (c .same-eights .ensures)
 
 shared-slice-read-if2 : tie.Need-shared-slice-read-if2 Inv-loop μ-loop
 shared-slice-read-if2 c = search needs
@@ -54,6 +58,7 @@ starts-with-spec =
     Inv-loop
     μ-loop
     returns
+    same-eights-requires
     loop-holds
     shared-slice-read-if2
     shared-slice-read-if2-2

@@ -1,9 +1,10 @@
 -- `leading` counts the dropped bytes in front. Invariant: what is passed and what is counted from there on make up the whole
--- count. Measure: the bytes left.
+-- count; it holds where the eights of spaces end (proofs/Skipped). Measure: the bytes left.
 use Rattle.text.specs.Trimming.{dropped}
 use Rattle.text.specs.Bytes.{countWhile}
 use borrow.Author.Tests.{not-true, not-false}
 use Rattle.text.proofs.Scan.{more, stop, end}
+use Rattle.text.proofs.Skipped.{spaces}
 use lib.ListN.{length, drop}
 use mathlib.Core.Path.{_≡_, sym, _∙_}
 use Prim.Native.Nat.{_+_, _-_, _≤_}
@@ -17,8 +18,11 @@ Inv-loop which s i₀ i = (i ≤ length s) × (countWhile (dropped which) s ≡ 
 abbrev μ-loop : tie.MeasureT-loop
 μ-loop which s i₀ i = length s - i
 
+space-eights-requires : tie.Need-space-eights-requires Inv-loop μ-loop
+space-eights-requires c κs = search needs
+
 loop-holds : tie.Need-loop-holds Inv-loop μ-loop
-loop-holds c = search needs
+loop-holds c = spaces _ _ _ (c .space-eights .ensures)
 
 shared-slice-read-drops : tie.Need-shared-slice-read-drops Inv-loop μ-loop
 shared-slice-read-drops c = search needs
@@ -51,6 +55,7 @@ leading-spec =
     (tie.spec
     Inv-loop
     μ-loop
+    space-eights-requires
     loop-holds
     shared-slice-read-drops
     drops-requires

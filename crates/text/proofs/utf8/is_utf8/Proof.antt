@@ -1,12 +1,14 @@
--- `is_utf8` passes one character a turn. Invariant: the text is well-formed exactly where the rest is (proofs/Chars). Measure:
--- the bytes left, which fall because a character has at least one.
+-- `is_utf8` passes one character a turn. Invariant: the text is well-formed exactly where the rest is (proofs/Chars); it
+-- holds where the eights of bytes below 80 end (proofs/Skipped). Measure: the bytes left, which fall because a character
+-- has at least one.
 use lib.ListN.{drop-of-length-le}
 use Rattle.text.proofs.Chars.{at-none, at-char, at-le, at-ascii}
 use Rattle.text.proofs.Front.{from}
+use Rattle.text.proofs.Skipped.{ascii}
 use Rattle.text.specs.Utf8.{utf8, owes}
 use lib.ListN.{length, drop}
 use native.Mathlib.Omega.{arith}
-use mathlib.Core.Path.{_≡_, refl, sym, _∙_}
+use mathlib.Core.Path.{_≡_, sym, _∙_}
 use Prim.Native.Nat.{_-_, _≤_}
 use borrow.Author.Needs.{needs}
 use Rattle.text.proofs.utf8.is_utf8.Statement.{statement}
@@ -18,8 +20,11 @@ Inv-loop s i₀ i = (i ≤ length s) × (utf8 s ≡ utf8 (drop i s))
 abbrev μ-loop : tie.MeasureT-loop
 μ-loop s i₀ i = length s - i
 
+ascii-eights-requires : tie.Need-ascii-eights-requires Inv-loop μ-loop
+ascii-eights-requires c κs = search needs
+
 loop-holds : tie.Need-loop-holds Inv-loop μ-loop
-loop-holds c = (search needs, refl)
+loop-holds c = ascii _ _ (c .ascii-eights .ensures)
 
 shared-slice-read-if1 : tie.Need-shared-slice-read-if1 Inv-loop μ-loop
 shared-slice-read-if1 c = search needs
@@ -56,12 +61,14 @@ returns c =
 
 add-i-2 : tie.Need-add-i-2 Inv-loop μ-loop
 add-i-2 c =
-    let loop-here = c .before .before .before .before .before .before .loop in
+    let loop-here′ = c .before .before .before .before .before .before .loop in
+    let loop-here = loop-here′ in
     omega (arith, at-le _ _ _ (sym (rw from at (c .before .char-len .ensures))) (loop-here .inv .0))
 
 loop-less-2 : tie.Need-loop-less-2 Inv-loop μ-loop
 loop-less-2 c =
-    let loop-here = c .before .before .before .before .before .before .loop in
+    let loop-here′ = c .before .before .before .before .before .before .loop in
+    let loop-here = loop-here′ in
     omega (arith, at-le _ _ _ (sym (rw from at (c .before .char-len .ensures))) (loop-here .inv .0))
 
 loop-again-2 : tie.Need-loop-again-2 Inv-loop μ-loop
@@ -81,6 +88,7 @@ is-utf8-spec =
     (tie.spec
     Inv-loop
     μ-loop
+    ascii-eights-requires
     loop-holds
     shared-slice-read-if1
     add-i
