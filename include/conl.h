@@ -176,6 +176,21 @@ enum conl_text {
 bool conl_unescape(const uint8_t *doc, size_t doc_len, const size_t *row, size_t row_len,
                    uint8_t *out, size_t out_len, size_t *answer, size_t answer_len);
 
+/*
+ * Unescapes a text that stands in no document, as conl_unescape does: the text of a token of this
+ * kind and line, with the indentation of a multiline value; of any other kind the indentation is
+ * not looked at. Places are counted from the text's start. `text` and `indent` are not tested for
+ * UTF-8: where they are, so is what is answered. Refusals are, in this order: 12, on line 0, where
+ * either has more than CONL_MAX_DOCUMENT bytes; 8 to 11; 14. All but 12 are on `line`, and none is
+ * 13.
+ *
+ * Returns false, with nothing written, where `kind` is not an enum conl_kind, or `answer` has fewer
+ * than CONL_ANSWER_WORDS words.
+ */
+bool conl_unescape_text(size_t kind, size_t line, const uint8_t *text, size_t text_len,
+                        const uint8_t *indent, size_t indent_len, uint8_t *out, size_t out_len,
+                        size_t *answer, size_t answer_len);
+
 /* The kinds of conl_look_up's answers, and the words that each has besides its kind. */
 enum conl_found {
     CONL_FOUND_NOTHING = 0, /* there is no such key, and the document is accepted */

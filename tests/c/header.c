@@ -243,6 +243,32 @@ static void try_unescape(void)
     CHECK(!conl_unescape(TEXT(""), row, CONL_ROW_WORDS, out, 1, answer, CONL_ANSWER_WORDS));
 }
 
+/* Texts that stand in no document: the kind, the line and the indentation each change the answer. */
+static void try_unescape_text(void)
+{
+    size_t answer[CONL_ANSWER_WORDS];
+    uint8_t out[8] = {0};
+    CHECK(conl_unescape_text(CONL_COMMENT, 7, TEXT("\"\\n\""), TEXT(""), out, 8, answer,
+                             CONL_ANSWER_WORDS));
+    CHECK(is_answer(answer, CONL_TEXT_PLAIN, 0, 0, 0, 4));
+    CHECK(conl_unescape_text(CONL_MAP_KEY, 7, TEXT("\"a\\n\""), TEXT(""), out, 8, answer,
+                             CONL_ANSWER_WORDS));
+    CHECK(is_answer(answer, CONL_TEXT_WRITTEN, 0, 0, 0, 2) && memcmp(out, "a\n", 3) == 0);
+    CHECK(conl_unescape_text(CONL_VALUE, 7, TEXT("\"\\x\""), TEXT("  "), out, 8, answer,
+                             CONL_ANSWER_WORDS));
+    CHECK(is_answer(answer, CONL_TEXT_REFUSED, CONL_INVALID_ESCAPE, 7, 1, 3));
+    CHECK(conl_unescape_text(CONL_MULTILINE_VALUE, 7, TEXT("x\n   y"), TEXT("  "), out, 3, answer,
+                             CONL_ANSWER_WORDS));
+    CHECK(is_answer(answer, CONL_TEXT_REFUSED, CONL_SHORT_BUFFER, 7, 0, 0));
+    CHECK(conl_unescape_text(CONL_MULTILINE_VALUE, 7, TEXT("x\n   y"), TEXT("  "), out, 4, answer,
+                             CONL_ANSWER_WORDS));
+    CHECK(is_answer(answer, CONL_TEXT_WRITTEN, 0, 0, 0, 4) && memcmp(out, "x\n y", 5) == 0);
+    CHECK(!conl_unescape_text(CONL_NO_VALUE + 1, 7, TEXT(""), TEXT(""), out, 8, answer,
+                              CONL_ANSWER_WORDS));
+    CHECK(!conl_unescape_text(CONL_VALUE, 7, TEXT(""), TEXT(""), out, 8, answer,
+                              CONL_ANSWER_WORDS - 1));
+}
+
 static void try_look_up(void)
 {
     size_t answer[CONL_ANSWER_WORDS];
@@ -277,6 +303,9 @@ static void try_document_limit(void)
     CHECK(conl_unescape(doc, CONL_MAX_DOCUMENT + 1, row, CONL_ROW_WORDS, out, 1, answer,
                         CONL_ANSWER_WORDS));
     CHECK(is_answer(answer, CONL_TEXT_REFUSED, CONL_TOO_LONG, 0, 0, 0));
+    CHECK(conl_unescape_text(CONL_MULTILINE_VALUE, 7, TEXT("a\nb"), doc, CONL_MAX_DOCUMENT + 1, out, 1,
+                             answer, CONL_ANSWER_WORDS));
+    CHECK(is_answer(answer, CONL_TEXT_REFUSED, CONL_TOO_LONG, 0, 0, 0));
     CHECK(conl_look_up(doc, CONL_MAX_DOCUMENT + 1, TEXT("a"), answer, CONL_ANSWER_WORDS));
     CHECK(is_answer(answer, CONL_FOUND_REFUSED, CONL_TOO_LONG, 0, 0, 0));
     free(doc);
@@ -304,6 +333,7 @@ int main(void)
     try_readings();
     try_sections();
     try_unescape();
+    try_unescape_text();
     try_look_up();
     try_document_limit();
     try_text();

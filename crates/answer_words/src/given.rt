@@ -30,7 +30,7 @@ pub fn unescape_text(
     if answer.len() < 5 {
         return false;
     }
-    let reading = unescape::reading_of(kind);
+    let reading = unescape::style_of(kind);
     let a = unescape::unescape_text(reading, text, indent, line, out);
     let w = answer_words(a);
     paste(&w, 0, answer);

@@ -29,11 +29,11 @@ use Rattle.unescape_pieces.specs.Source.{sourceOf}
 use Rattle.unescape_pieces.specs.declared.source.Style.{Style}
 use Rattle.unescape_pieces.proofs.Proper.{Proper, meaning-proper}
 use Rattle.unescape.specs.Unescape.{keptBuffer, refusal, delivered}
-use Rattle.unescape.specs.Texts.{readingOf, unescapeTextOf, unescapedFrom, KindsRead, TokensByText}
+use Rattle.unescape.specs.Texts.{styleOf, unescapeTextOf, unescapedFrom, KindsRead, TokensByText}
 use Rattle.unescape.proofs.Ruling.{sound-length, ruled}
 
 pub kinds-read : KindsRead
-unfolding readingOf tokenValues sourceOf
+unfolding styleOf tokenValues sourceOf
 kinds-read (Newline l) = refl
 kinds-read (Comment l p) = refl
 kinds-read (Indent l) = refl

@@ -8,6 +8,7 @@ use mathlib.Core.Bool.{true, cond, _||_}
 use lib.Dec.{eqb, ltb}
 use lib.ListN.{length}
 use Rattle.text.specs.Bytes.{shiftedBy}
+use Rattle.text.specs.Numbers.{maxDocument, tooLong}
 use Rattle.tokenizer.specs.Token.{tokenValues, lineOf}
 use Rattle.tokenizer.specs.Step.{bytesOf}
 use Rattle.tokenizer.specs.declared.token.Token.{Token}
@@ -20,13 +21,13 @@ use Rattle.unescape.specs.declared.Answer.{Answer}
 use Rattle.unescape.specs.declared.Answer.the-variants.{Plain, Written, Refused}
 
 -- how the text of a token of kind k is read: a key's or a value's, a multiline value's, any other
-unfoldable pub readingOf : ℕ → Style
-readingOf k = cond (eqb k 6 || eqb k 7) Entry (cond (eqb k 9) Block AsIs)
+unfoldable pub styleOf : ℕ → Style
+styleOf k = cond (eqb k 6 || eqb k 7) Entry (cond (eqb k 9) Block AsIs)
 
 -- the text s with the indentation i, read as r on line l
 unfoldable pub unescapeTextOf : Style → List ℕ → List ℕ → ℕ → List ℕ → Unescaped
 unescapeTextOf r s i l o =
-    cond (ltb 16777216 (length s) || ltb 16777216 (length i)) (keptBuffer (refusal 12 0) o) (delivered (meaning r s i) 0 l o)
+    cond (ltb maxDocument (length s) || ltb maxDocument (length i)) (keptBuffer (refusal tooLong 0) o) (delivered (meaning r s i) 0 l o)
 
 -- What is said of a text that starts at n in a document, said of the document: n is added to the plain part, and to the
 -- part that a refusal shows, which is 8's alone.
@@ -40,7 +41,7 @@ unescapedFrom n u = record { answer = answerFrom n (u .answer); buffer = u .buff
 
 -- a token's kind says how it is read
 abbrev pub KindsRead : Type 0
-KindsRead = (t : Token) → readingOf (tokenValues t .number) ≡ sourceOf t .style
+KindsRead = (t : Token) → styleOf (tokenValues t .number) ≡ sourceOf t .style
 
 -- a token whose text and indentation are sound parts of a document is unescaped as their bytes are
 abbrev pub TokensByText : Type 0

@@ -5,7 +5,7 @@ mod tokens;
 mod walk;
 
 use text::Part;
-pub use texts::reading_of;
+pub use texts::style_of;
 pub use texts::unescape_text;
 pub use tokens::plain;
 pub use tokens::unescape;

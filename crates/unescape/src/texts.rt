@@ -5,11 +5,11 @@ use crate::tokens::refuse;
 use tokenizer::State;
 use unescape_pieces::Style;
 ghost use mathlib.Core.Path.{_≡_};
-ghost use Rattle.unescape.specs.Texts.{readingOf, unescapeTextOf};
+ghost use Rattle.unescape.specs.Texts.{styleOf, unescapeTextOf};
 
 // How the text of a token of a kind is read: a key or a value, a multiline value, and any other.
-pub fn reading_of(kind: usize) -> Style
-    ensures { λ r. ⌜ r ≡ readingOf kind ⌝ }
+pub fn style_of(kind: usize) -> Style
+    ensures { λ r. ⌜ r ≡ styleOf kind ⌝ }
 {
     match kind {
         6 => Style::Entry,

@@ -24,8 +24,8 @@ returns-2 : tie.Need-returns-2
 unfolding givenTextOf
 returns-2 c = let e = told (c .before) in let f = lt-leb _ _ (c .if2 .taken) in (rw (e, f), (rw (e, f), rw (e, f)))
 
-reading-of-requires : tie.Need-reading-of-requires
-reading-of-requires c κs = search needs
+style-of-requires : tie.Need-style-of-requires
+style-of-requires c κs = search needs
 
 unescape-text-requires : tie.Need-unescape-text-requires
 unescape-text-requires c κs = search needs
@@ -54,7 +54,7 @@ returns-3 c =
     let e = told (s .before .before) in
     let f = le-leb _ _ (s .before .if2 .left) in
     let p = c .before .before .paste .ensures ∙ pasted-room _ _ _ (omega arith) in
-    let r = s .reading-of .ensures in
+    let r = s .style-of .ensures in
     let five : length (a .answer-words .result) ≡ 5 = omega arith in (
       rw (e, f),
       (
@@ -70,7 +70,7 @@ unescape-text-spec =
     is-kind-requires
     returns
     returns-2
-    reading-of-requires
+    style-of-requires
     unescape-text-requires
     answer-words-requires
     slice-aggregate-paste
