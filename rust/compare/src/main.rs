@@ -31,6 +31,7 @@ use crate::tally::Tally;
 use conl::port::Trim;
 use std::env;
 use std::ffi::OsString;
+use std::io::{self, Write};
 use std::path::{Path, PathBuf};
 use std::process::ExitCode;
 
@@ -50,10 +51,7 @@ fn main() -> ExitCode {
     let words: Vec<OsString> = env::args_os().skip(1).collect();
     match &words[..] {
         [] => compare(Extent::GATE),
-        [word] if word == "vectors" => {
-            print!("{}", vectors::sample());
-            ExitCode::SUCCESS
-        }
+        [word] if word == "vectors" => print_vectors(),
         [word, rest @ ..] if word == "long" => long(rest).map_or_else(misused, compare),
         [word, paths @ ..] if word == "files" && !paths.is_empty() => {
             files::compare(&paths.iter().map(PathBuf::from).collect::<Vec<_>>())
@@ -107,6 +105,16 @@ fn compare(extent: Extent) -> ExitCode {
         ExitCode::SUCCESS
     } else {
         ExitCode::FAILURE
+    }
+}
+
+fn print_vectors() -> ExitCode {
+    match io::stdout().write_all(vectors::sample().as_bytes()) {
+        Ok(()) => ExitCode::SUCCESS,
+        Err(error) => {
+            eprintln!("compare: standard output: {error}");
+            ExitCode::FAILURE
+        }
     }
 }
 
