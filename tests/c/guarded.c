@@ -244,6 +244,27 @@ static void look_up(const uint8_t *wanted, size_t wanted_len)
     found[kind]++;
 }
 
+/* A text that stands in no document, with an indentation, and as much room as comes. */
+static void unescape_text(enum function function, const uint8_t *text, size_t length, size_t indent)
+{
+    static uint8_t before[MOST_BYTES], after[MOST_BYTES];
+    static struct words answer;
+    size_t room = below(2) && length < MOST_BYTES ? length : below(20);
+    memset(before, (int)below(256), room);
+    fill(&answer, below(6) ? CONL_ANSWER_WORDS + below(SPARE) : below(CONL_ANSWER_WORDS));
+    const struct lent lent[] = {BYTES(text, length), BYTES(text, indent), {before, room, after}, WORDS(&answer)};
+    bool answered = call(function, lent, 4);
+    const size_t *words = answer.after;
+    expect(answered == (answer.count >= CONL_ANSWER_WORDS), "answers by another rule");
+    expect(is_kept(&answer, answered ? CONL_ANSWER_WORDS : 0), "a word is written that is not the answer's");
+    size_t written = answered && words[CONL_ANSWER_KIND] == CONL_TEXT_WRITTEN ? words[CONL_ANSWER_END] : 0;
+    expect(written <= room && memcmp(before + written, after + written, room - written) == 0,
+           "a byte is written that is not the text's");
+    expect(!answered || words[CONL_ANSWER_KIND] != CONL_TEXT_REFUSED || words[CONL_ANSWER_LINE] == 7,
+           "a refusal is on another line");
+    expect(!answered || words[CONL_ANSWER_END] <= length, "a part is not in the text");
+}
+
 static void trim(enum function function, const uint8_t *text, size_t length)
 {
     static struct words part;
@@ -287,6 +308,8 @@ static void try_document(void)
     call(IS_UTF8, text, 1);
     trim(TRIM_BLANKS, document.bytes + start, length);
     trim(TRIM_BREAKS, document.bytes + start, length);
+    unescape_text(UNESCAPE_VALUE, document.bytes + start, length, 0);
+    unescape_text(UNESCAPE_LINES, document.bytes + start, length, length < 2 ? length : below(3));
     look_up(document.bytes + start, length < 3 ? length : 3);
     look_up((const uint8_t *)"key", below(2) ? 3 : 0);
     look_up((const uint8_t *)"a", 1);

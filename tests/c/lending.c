@@ -35,7 +35,8 @@ static uint8_t *painted[2]; /* a page of the bytes that are put beside a slice, 
 static const char *const names[FUNCTIONS] = {
     [VERSION] = "conl_version", [FRESH_TOKENIZER] = "conl_fresh_tokenizer",
     [TOKENIZE] = "conl_tokenize", [FRESH_PARSER] = "conl_fresh_parser", [PARSE] = "conl_parse",
-    [UNESCAPE] = "conl_unescape", [LOOK_UP] = "conl_look_up", [IS_UTF8] = "conl_is_utf8",
+    [UNESCAPE] = "conl_unescape", [UNESCAPE_VALUE] = "conl_unescape_text, of a value",
+    [UNESCAPE_LINES] = "conl_unescape_text, of lines", [LOOK_UP] = "conl_look_up", [IS_UTF8] = "conl_is_utf8",
     [TRIM_BLANKS] = "conl_trim", [TRIM_BREAKS] = "conl_trim, with breaks",
 };
 
@@ -149,6 +150,9 @@ static size_t apply(enum function function)
     case FRESH_PARSER: return conl_fresh_parser(WORDS(0));
     case PARSE: return conl_parse(BYTES(0), WORDS(1), WORDS(2));
     case UNESCAPE: return conl_unescape(BYTES(0), WORDS(1), BYTES(2), WORDS(3));
+    case UNESCAPE_VALUE: return conl_unescape_text(CONL_VALUE, 7, BYTES(0), BYTES(1), BYTES(2), WORDS(3));
+    case UNESCAPE_LINES:
+        return conl_unescape_text(CONL_MULTILINE_VALUE, 7, BYTES(0), BYTES(1), BYTES(2), WORDS(3));
     case LOOK_UP: return conl_look_up(BYTES(0), BYTES(1), WORDS(2));
     case IS_UTF8: return conl_is_utf8(BYTES(0));
     case TRIM_BLANKS: return conl_trim(BYTES(0), false, WORDS(1));
