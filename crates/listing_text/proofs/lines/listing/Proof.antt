@@ -89,9 +89,11 @@ fresh-parser-requires c κs = search needs
 
 loop-holds : tie.Need-loop-holds Inv-loop μ-loop
 loop-holds c =
-    let a = c .before .before .before .before .before .before .before .before .before .before .before .args in
+    let args = c .before .before .before .before .before .before .before .before .before .before .before .args in
+    let if1 = c .before .before .before .if1 in
+    let a = args in
     let f = fresh-reads (a .doc .now) (replicate 213 0) refl in
-    rw (c .before .fresh-parser .ensures .1) (f .1, start _ _ _ (f .0) (c .before .before .before .if1 .left) (omega arith))
+    rw (c .before .fresh-parser .ensures .1) (f .1, start _ _ _ (f .0) (if1 .left) (omega arith))
 
 next-requires : tie.Need-next-requires Inv-loop μ-loop
 next-requires c κs = search needs

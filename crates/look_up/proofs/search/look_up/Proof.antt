@@ -53,16 +53,19 @@ fresh-parser-requires c κs = search needs
 
 loop-holds : tie.Need-loop-holds Inv-loop μ-loop
 loop-holds c =
-    let a = c .before .before .before .before .before .before .args in
+    let args = c .before .before .before .before .before .before .args in
+    let if1 = c .before .before .before .if1 in
+    let a = args in
     let f = fresh-reads (a .doc .now) (replicate 213 0) refl in
-    rw (c .before .fresh-parser .ensures .1) (f .1, rw (f .0) (begins _ _ (c .before .before .before .if1 .left)))
+    rw (c .before .fresh-parser .ensures .1) (f .1, rw (f .0) (begins _ _ (if1 .left)))
 
 next-requires : tie.Need-next-requires Inv-loop μ-loop
 next-requires c κs = search needs
 
 on-row-requires : tie.Need-on-row-requires Inv-loop μ-loop
 on-row-requires c κs =
-    let i = c .before .before .before .before .loop .inv .1 in
+    let loop-here = c .before .before .before .before .loop in
+    let i = loop-here .inv .1 in
     (omega (arith, i .counts), may-come _ _ _ _ i (rowed (c .before)))
 
 enum-known-found : tie.Need-enum-known-found Inv-loop μ-loop

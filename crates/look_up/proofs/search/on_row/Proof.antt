@@ -47,7 +47,9 @@ returns-4 c = rw (c .before .match .keys3)
 
 returns-5 : tie.Need-returns-5
 unfolding onRow
-returns-5 c = rw (c .before .before .before .match .keys4) (c .on-key .ensures)
+returns-5 c =
+    let match-here = c .before .before .before .match in
+    rw (match-here .keys4) (c .on-key .ensures)
 
 returns-6 : tie.Need-returns-6
 unfolding onRow

@@ -28,7 +28,8 @@ returns c = rw (← c .before .before .quotes-len .ensures, rw from at (c .plain
 
 add-result : tie.Need-add-result
 add-result c =
-    let args = c .before .before .before .before .args in
+    let args′ = c .before .before .before .before .args in
+    let args = args′ in
     let a = args in
     omega (arith, returns c, text-le (a .also) (a .s .now))
 

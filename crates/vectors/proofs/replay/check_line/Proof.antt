@@ -19,7 +19,8 @@ array-share-prefix-bytes c = search needs
 
 slice-aggregate-s : tie.Need-slice-aggregate-s
 slice-aggregate-s c =
-    let text-of = c .before .before .before .text-of in
+    let text-of′ = c .before .before .before .text-of in
+    let text-of = text-of′ in
     sym (length-take-le _ _ (text-of .ensures))
 
 shared-slice-read-match : tie.Need-shared-slice-read-match
