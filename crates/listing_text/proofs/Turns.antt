@@ -1,27 +1,64 @@
 -- The listing's loop: the rows written so far, and then the rows of what is left, are the rows of the parser's list.
-use Prim.Native.Nat.{ℕ, _+_, _*_, _^_, _≤_, _<_}
+use Prim.Native.Nat.{ℕ, _+_, _-_, _*_, _^_, _≤_, _<_}
 use mathlib.Core.Path.{_≡_, refl, sym, ap, _∙_}
 use mathlib.Core.List.{List, [], _∷_, _++_, append-nil, append-assoc}
-use mathlib.Core.Bool.{Bool, true, false}
+use mathlib.Core.Bool.{true, false}
 use native.Mathlib.Omega.{arith}
 use lib.ListN.{length}
-use borrow.Author.Tests.{lt-ltb, le-ltb}
+use borrow.Author.Tests.{lt-ltb, le-ltb, le-leb}
+use Rattle.text.proofs.Cases.{clash}
 use Rattle.parser_rules.specs.Ruling.{valuesOf}
 use Rattle.parser.specs.Step.{stepOf, fresh}
 use Rattle.parser.specs.Lists.{isEnd, parse}
 use Rattle.parser_rules.specs.declared.ruling.Answer.{Answer}
-use Rattle.parser_rules.specs.declared.ruling.Answer.the-variants.{Refused}
+use Rattle.parser_rules.specs.declared.ruling.Answer.the-variants.{End, Token, Refused}
+use Rattle.tokenizer.specs.Token.{tokenValues}
+use Rattle.tokenizer.specs.declared.token.Token.the-variants as token
+use Rattle.tokenizer_words.specs.Rows.{rowOf}
 use Rattle.parser.specs.declared.state.State.{State}
-use Rattle.parser.proofs.Valued.{values-injective}
 use Rattle.parser_claims.specs.Rests.{rest, Stands}
 use Rattle.parser_claims.proofs.Rests.{fresh-stands, rest-end, rest-step, step-stands}
 use Rattle.listing_text.specs.Text.{placed, filled}
-use Rattle.listing_text.specs.Listing.{header, answerText, rowsText, listingOf}
+use Rattle.listing_text.specs.Listing.{header, answerText, lineText, rowsText, listingOf}
 use Rattle.listing_text.proofs.Placing.{Wrote, both, placed-filled}
 
--- what the code's step and its test tell is told of the rule's own answer
-pub told : (a b : Answer) {t u : Bool} → valuesOf a ≡ valuesOf b → t ≡ isEnd a → t ≡ u → isEnd b ≡ u
-told a b v e f = sym (ap isEnd (values-injective a b v)) ∙ sym e ∙ f
+-- End is the answer whose number is 0
+pub end-zero : (a : Answer) → valuesOf a .number ≡ 0 → isEnd a ≡ true
+unfolding valuesOf tokenValues isEnd
+end-zero End e = refl
+end-zero (Token (token.Newline l)) e = absurd (omega arith)
+end-zero (Token (token.Comment l p)) e = absurd (omega arith)
+end-zero (Token (token.Indent l)) e = absurd (omega arith)
+end-zero (Token (token.Outdent l)) e = absurd (omega arith)
+end-zero (Token (token.ListItem l)) e = absurd (omega arith)
+end-zero (Token (token.MapKey l p)) e = absurd (omega arith)
+end-zero (Token (token.Value l p)) e = absurd (omega arith)
+end-zero (Token (token.MultilineHint l p)) e = absurd (omega arith)
+end-zero (Token (token.MultilineValue l i p)) e = absurd (omega arith)
+end-zero (Token (token.NoValue l)) e = absurd (omega arith)
+end-zero (Refused n l) e = absurd (omega arith)
+
+pub not-zero : (a : Answer) → (valuesOf a .number ≡ 0 → ⊥) → isEnd a ≡ false
+unfolding valuesOf isEnd
+not-zero End z = absurd (z refl)
+not-zero (Token t) z = refl
+not-zero (Refused n l) z = refl
+
+-- the line of a row is that of its answer
+pub line-is : (a : Answer) → isEnd a ≡ false → lineText (rowOf (valuesOf a)) ≡ answerText a
+unfolding lineText answerText valuesOf tokenValues isEnd
+line-is End e = absurd (clash e)
+line-is (Token (token.Newline l)) e = refl
+line-is (Token (token.Comment l p)) e = refl
+line-is (Token (token.Indent l)) e = refl
+line-is (Token (token.Outdent l)) e = refl
+line-is (Token (token.ListItem l)) e = refl
+line-is (Token (token.MapKey l p)) e = refl
+line-is (Token (token.Value l p)) e = refl
+line-is (Token (token.MultilineHint l p)) e = refl
+line-is (Token (token.MultilineValue l i p)) e = refl
+line-is (Token (token.NoValue l)) e = refl
+line-is (Refused n l) e = let k : 256 + n - 256 ≡ n = omega arith in rw (le-leb 256 (256 + n) (omega arith), k)
 
 -- the loop began at the place n of the buffer o, and has come to the place m of the buffer p, and to a state of the parsing; a row
 -- has at most 85 bytes, and there are at most 2 * 65,536

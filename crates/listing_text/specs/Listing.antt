@@ -1,10 +1,10 @@
 -- Law: document 01, 'Look-up and listing': a header of names, then a row for each answer of the parser.
-use Prim.Native.Nat.{ℕ}
+use Prim.Native.Nat.{ℕ, _-_}
 use Prim.Native.Char.{code as byte}
 use mathlib.Core.List.{List, [], _∷_, _++_}
 use mathlib.Core.Bool.{Bool, true, false, cond}
-use lib.Dec.{ltb}
-use lib.ListN.{length}
+use lib.Dec.{leb, ltb}
+use lib.ListN.{length, getD}
 use Rattle.text.specs.Ascii.{ascii}
 use Rattle.text.specs.Numbers.{tooLong}
 use Rattle.tokenizer.specs.Token.{Values, tokenValues}
@@ -36,6 +36,12 @@ unfoldable pub answerText : Answer → List ℕ
 answerText End = []
 answerText (Token t) = tokenText (tokenValues t)
 answerText (Refused n l) = rowText l (kindText true n) 0 0
+
+-- the same by the answer's row, in which a refusal's number is 256 more; End has none
+unfoldable pub lineText : List ℕ → List ℕ
+lineText r =
+    let n = getD r 0 0 in
+    rowText (getD r 1 0) (cond (leb 256 n) (kindText true (n - 256)) (kindText false n)) (getD r 2 0) (getD r 3 0)
 
 unfoldable pub rowsText : List Answer → List ℕ
 rowsText [] = []

@@ -1,18 +1,13 @@
 // The listing's rows, and the listing.
 use crate::writing::put_number;
 use crate::writing::put_text;
-use parser::Answer;
-use parser::State;
-use parser::Step;
-use tokenizer::Token;
-use tokenizer_words::token_row;
+use parser_words::fresh_parser;
+use step_words::next;
 ghost use mathlib.Core.Path.{_≡_};
 ghost use Prim.Native.Nat.{_+_, _≤_, _<_, _^_};
 ghost use lib.ListN.{length};
-ghost use Rattle.tokenizer.specs.Token.{tokenValues};
-ghost use Rattle.parser.specs.Lists.{isEnd};
 ghost use Rattle.listing_text.specs.Text.{placed, filled};
-ghost use Rattle.listing_text.specs.Listing.{kindText, rowText, tokenText, answerText, listingOf};
+ghost use Rattle.listing_text.specs.Listing.{kindText, rowText, lineText, listingOf};
 
 // How many bytes a document may have.
 const MAX_LISTED: usize = 65536;
@@ -56,38 +51,18 @@ fn put_row(
     put_text(b"\n", g, out)
 }
 
-fn put_token(t: Token, at: usize, out: &mut [u8]) -> usize
+// The line of an answer's row: a refusal's number is 256 more.
+fn put_answer(row: &[usize; 7], at: usize, out: &mut [u8]) -> usize
     requires { ⌜ at + 85 < 2 ^ 64 ⌝ }
-    ensures { λ r. ⌜ r ≡ at + length (tokenText (tokenValues t)) ⌝ }
+    ensures { λ r. ⌜ r ≡ at + length (lineText (now (row .entry))) ⌝ }
     ensures { λ r. ⌜ r ≤ at + 85 ⌝ }
-    ensures { λ r. ⌜ now (out .exit) ≡ placed (tokenText (tokenValues t)) at (now (out .entry)) ⌝ }
+    ensures { λ r. ⌜ now (out .exit) ≡ placed (lineText (now (row .entry))) at (now (out .entry)) ⌝ }
 {
-    let r = token_row(t);
-    put_row(r[1], false, r[0], r[2], r[3], at, out)
-}
-
-// The row of an answer; End has none.
-fn put_answer(a: Answer, at: usize, out: &mut [u8]) -> usize
-    requires { ⌜ at + 85 < 2 ^ 64 ⌝ }
-    ensures { λ r. ⌜ r ≡ at + length (answerText a) ⌝ }
-    ensures { λ r. ⌜ r ≤ at + 85 ⌝ }
-    ensures { λ r. ⌜ now (out .exit) ≡ placed (answerText a) at (now (out .entry)) ⌝ }
-{
-    match a {
-        Answer::End => at,
-        Answer::Token(t) => put_token(t, at, out),
-        Answer::Refused(n, line) => put_row(line, true, n, 0, 0, at, out),
+    let number = row[0];
+    if 256 <= number {
+        return put_row(row[1], true, number - 256, row[2], row[3], at, out);
     }
-}
-
-fn is_end(a: Answer) -> bool
-    ensures { λ r. ⌜ r ≡ isEnd a ⌝ }
-{
-    match a {
-        Answer::End => true,
-        Answer::Token(_) => false,
-        Answer::Refused(_, _) => false,
-    }
+    put_row(row[1], false, number, row[2], row[3], at, out)
 }
 
 // Writes the listing into out, as far as it goes, and answers how many bytes the listing has.
@@ -99,16 +74,14 @@ pub fn listing(doc: &[u8], out: &mut [u8]) -> usize
     if MAX_LISTED < doc.len() {
         return put_row(0, true, 12, 0, 0, at, out);
     }
-    let mut state = State::new();
+    let mut words = [0usize; 213];
+    fresh_parser(&mut words);
+    let mut row = [0usize; 7];
     loop {
-        let Step {
-            answer,
-            state: next,
-        } = state.step(doc);
-        if is_end(answer) {
+        next(doc, &mut words, &mut row);
+        if row[0] == 0 {
             return at;
         }
-        at = put_answer(answer, at, out);
-        state = next;
+        at = put_answer(&row, at, out);
     }
 }

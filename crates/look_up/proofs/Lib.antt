@@ -1,6 +1,7 @@
 pub mod Same
 pub mod Counts
 pub mod Searched
+pub mod Rows
 pub mod Searching
 pub mod Parts
 pub mod Examples

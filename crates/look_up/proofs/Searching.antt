@@ -12,19 +12,19 @@ use Rattle.parser.specs.Lists.{isEnd}
 use Rattle.parser_rules.specs.declared.ruling.Answer.{Answer}
 use Rattle.parser_rules.specs.declared.ruling.Answer.the-variants as answer
 use Rattle.parser.specs.declared.state.State.{State}
-use Rattle.parser.specs.declared.state.Step.{Step}
-use Rattle.parser.proofs.Valued.{equal-steps}
+use Rattle.tokenizer_words.specs.Rows.{rowOf}
 use Rattle.parser_claims.specs.Claims.{Fits}
 use Rattle.parser_claims.specs.Rests.{rest, Stands}
 use Rattle.parser_claims.proofs.Rests.{fresh-stands, rest-end, rest-step, step-fits, step-stands}
 use Rattle.parser_claims.proofs.Ordered.{Ordered, tail, parse-ordered}
 use Rattle.look_up.specs.Entries.{lookUp}
-use Rattle.look_up.specs.Search.{MayCome, onAnswer}
+use Rattle.look_up.specs.Search.{MayCome, onAnswer, onRow, RowFits}
 use Rattle.look_up.specs.declared.search.Found.{Found}
 use Rattle.look_up.specs.declared.search.Hit.the-variants.{Nothing}
 use Rattle.look_up.specs.declared.search.Search.{Search}
 use Rattle.look_up.specs.declared.search.Turn.{Turn}
 use Rattle.look_up.specs.declared.search.Turn.the-variants.{Goes, Ends}
+use Rattle.look_up.proofs.Rows.{row-is, row-fits}
 use Rattle.look_up.proofs.Counts.{counted, answer-counts}
 use Rattle.look_up.proofs.Searched.{searched, turned, searched-end, searched-step}
 
@@ -101,23 +101,21 @@ module _ (d w : List ℕ) (t : State) (s : Search) (c : Searching d w t s) where
           finds = turns ∙ ap afterwards g;
         }
 
-  -- x has what the step promises
-  module _ (x : Step) (p : (valuesOf (x .answer) ≡ valuesOf (stepOf d t .answer)) × (x .state ≡ stepOf d t .state)) where
-    the-step : x ≡ stepOf d t
-    the-step = equal-steps x (stepOf d t) (p .0) (p .1)
+  -- the turn that the row of the step's answer makes
+  module _ {r : List ℕ} (v : r ≡ rowOf (valuesOf (stepOf d t .answer))) where
+    pub may-come : RowFits d r
+    may-come = subst (RowFits d) (sym v) (row-fits d (stepOf d t .answer) comes)
 
-    pub may-come : MayCome d (x .answer)
-    may-come = rw the-step comes
-
-    module _ {y : Turn} (q : y ≡ onAnswer d w s (x .answer)) where
+    module _ {y : Turn} (q : y ≡ onRow d w s r) where
       the-turn : y ≡ onAnswer d w s (stepOf d t .answer)
-      the-turn = rw the-step at q
+      the-turn = q ∙ ap (onRow d w s) v ∙ row-is d w s (stepOf d t .answer)
 
       pub finds : {f : Found} → y ≡ Ends f → f ≡ lookUp d w
       finds e = sym (turns ∙ ap afterwards (sym the-turn ∙ e))
 
-      pub falls : {u : Search} → y ≡ Goes u → length (rest d (x .state)) < length (rest d t)
-      falls e = rw the-step (less (sym the-turn ∙ e))
+      module _ {x : State} (i : x ≡ stepOf d t .state) where
+        pub falls : {u : Search} → y ≡ Goes u → length (rest d x) < length (rest d t)
+        falls e = rw i (less (sym the-turn ∙ e))
 
-      pub goes-on : {u : Search} → y ≡ Goes u → Searching d w (x .state) u
-      goes-on e = rw the-step (again (sym the-turn ∙ e))
+        pub goes-on : {u : Search} → y ≡ Goes u → Searching d w x u
+        goes-on e = rw i (again (sym the-turn ∙ e))

@@ -1,16 +1,18 @@
 -- Intermediate: the look-up as one pass over the parser's answers, what one answer does to a search. proofs/Searched
 -- and proofs/Searching show that the pass comes to the law's look-up.
-use Prim.Native.Nat.{ℕ, _+_, _<_, _^_}
+use Prim.Native.Nat.{ℕ, _+_, _-_, _<_, _^_}
+use mathlib.Core.Path.{_≡_}
 use mathlib.Core.List.{List}
 use mathlib.Core.Bool.{cond}
-use lib.Dec.{eqb}
-use lib.ListN.{length}
+use lib.Dec.{eqb, leb}
+use lib.ListN.{length, getD}
 use Rattle.text.specs.declared.bytes.Part.{Part}
 use Rattle.tokenizer.specs.Step.{bytesOf}
 use Rattle.tokenizer.specs.declared.token.Token.{Token}
 use Rattle.tokenizer.specs.declared.token.Token.the-variants as token
 use Rattle.parser_rules.specs.declared.ruling.Answer.{Answer}
 use Rattle.parser_rules.specs.declared.ruling.Answer.the-variants as answer
+use Rattle.tokenizer_claims.specs.Claims.{Within}
 use Rattle.parser_claims.specs.Claims.{TokenFits}
 use Rattle.look_up.specs.Entries.{isSame}
 use Rattle.look_up.specs.declared.search.Found.{Found}
@@ -60,3 +62,20 @@ unfoldable pub onAnswer : List ℕ → List ℕ → Search → Answer → Turn
 onAnswer d w s answer.End = Ends (closedAt (s .hit) (length d))
 onAnswer d w s (answer.Token t) = onToken d w s t
 onAnswer d w s (answer.Refused n l) = Ends (found.Refused n l)
+
+-- the same by the row of an answer
+abbrev pub textIn : List ℕ → Part
+textIn r = record { start = getD r 2 0; end = getD r 3 0 }
+
+unfoldable pub onRow : List ℕ → List ℕ → Search → List ℕ → Turn
+onRow d w s r =
+    let n = getD r 0 0 in
+    cond (leb 256 n) (Ends (found.Refused (n - 256) (getD r 1 0)))
+    (cond (eqb n 0) (Ends (closedAt (s .hit) (length d)))
+    (cond (eqb n 3) (Goes (record { indents = s .indents + 1; outdents = s .outdents; hit = s .hit }))
+    (cond (eqb n 4) (Goes (record { indents = s .indents; outdents = s .outdents + 1; hit = s .hit }))
+    (cond (eqb n 6) (onKey d w s (getD r 1 0) (textIn r)) (Goes s)))))
+
+-- a key's text lies within the document
+abbrev pub RowFits : List ℕ → List ℕ → Type 0
+RowFits d r = getD r 0 0 ≡ 6 → Within d (textIn r)

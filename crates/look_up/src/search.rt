@@ -1,14 +1,12 @@
-// The look-up: one pass over the parser's answers.
-use parser::Answer;
-use parser::State;
-use parser::Step;
+// The look-up: one pass over the parser's answers, a row each, its state in words of its own.
+use parser_words::fresh_parser;
+use step_words::next;
 use text::Part;
-use tokenizer::Token;
+use tokenizer::State;
 ghost use mathlib.Core.Path.{_≡_};
 ghost use Rattle.tokenizer_claims.specs.Claims.{Within};
-ghost use Rattle.parser_claims.specs.Claims.{TokenFits};
 ghost use Rattle.look_up.specs.Entries.{isSame, lookUp, entryOf};
-ghost use Rattle.look_up.specs.Search.{HasRoom, MayCome, closedAt, onKey, onToken, onAnswer};
+ghost use Rattle.look_up.specs.Search.{HasRoom, RowFits, closedAt, onKey, onRow};
 
 // What the look-up answers: nothing, or the line of the key with the entry's part of the document, or the parser's refusal
 // with its number and line.
@@ -79,40 +77,41 @@ fn on_key(s: Search, line: usize, p: Part, doc: &[u8], wanted: &[u8]) -> Turn
     Turn::Goes(s)
 }
 
-fn on_token(s: Search, t: Token, doc: &[u8], wanted: &[u8]) -> Turn
+// What the row of an answer does to a search: End and a refusal end it, Indents and Outdents are counted, keys are compared.
+fn on_row(s: Search, row: &[usize; 7], doc: &[u8], wanted: &[u8]) -> Turn
     requires { ⌜ HasRoom s ⌝ }
-    requires { ⌜ TokenFits (now doc) t ⌝ }
-    ensures { λ r. ⌜ r ≡ onToken (now (doc .entry)) (now (wanted .entry)) s t ⌝ }
+    requires { ⌜ RowFits (now doc) (now row) ⌝ }
+    ensures { λ r. ⌜ r ≡ onRow (now (doc .entry)) (now (wanted .entry)) s (now (row .entry)) ⌝ }
 {
     let hit = s.hit;
-    match t {
-        Token::Indent(_) => Turn::Goes(Search {
+    let number = row[0];
+    let line = row[1];
+    if 256 <= number {
+        return Turn::Ends(Found::Refused(number - 256, line));
+    }
+    match number {
+        0 => Turn::Ends(closed(hit, doc.len())),
+        3 => Turn::Goes(Search {
             indents: s.indents + 1,
             outdents: s.outdents,
             hit,
         }),
-        Token::Outdent(_) => Turn::Goes(Search {
+        4 => Turn::Goes(Search {
             indents: s.indents,
             outdents: s.outdents + 1,
             hit,
         }),
-        Token::MapKey(line, p) => on_key(s, line, p, doc, wanted),
+        6 => on_key(
+            s,
+            line,
+            Part {
+                start: row[2],
+                end: row[3],
+            },
+            doc,
+            wanted,
+        ),
         _ => Turn::Goes(s),
-    }
-}
-
-fn on_answer(s: Search, a: Answer, doc: &[u8], wanted: &[u8]) -> Turn
-    requires { ⌜ HasRoom s ⌝ }
-    requires { ⌜ MayCome (now doc) a ⌝ }
-    ensures { λ r. ⌜ r ≡ onAnswer (now (doc .entry)) (now (wanted .entry)) s a ⌝ }
-{
-    match a {
-        Answer::End => {
-            let hit = s.hit;
-            Turn::Ends(closed(hit, doc.len()))
-        }
-        Answer::Token(t) => on_token(s, t, doc, wanted),
-        Answer::Refused(n, line) => Turn::Ends(Found::Refused(n, line)),
     }
 }
 
@@ -121,25 +120,23 @@ fn on_answer(s: Search, a: Answer, doc: &[u8], wanted: &[u8]) -> Turn
 pub fn look_up(doc: &[u8], wanted: &[u8]) -> Found
     ensures { λ r. ⌜ r ≡ lookUp (now (doc .entry)) (now (wanted .entry)) ⌝ }
 {
-    if tokenizer::State::MAX_DOCUMENT < doc.len() {
+    if State::MAX_DOCUMENT < doc.len() {
         return Found::Refused(12, 0);
     }
-    let mut state = State::new();
+    let mut words = [0usize; 213];
+    fresh_parser(&mut words);
+    let mut row = [0usize; 7];
     let mut search = Search {
         indents: 0,
         outdents: 0,
         hit: Hit::Nothing,
     };
     loop {
-        let Step {
-            answer,
-            state: next,
-        } = state.step(doc);
-        match on_answer(search, answer, doc, wanted) {
+        next(doc, &mut words, &mut row);
+        match on_row(search, &row, doc, wanted) {
             Turn::Ends(found) => return found,
             Turn::Goes(s) => {
                 search = s;
-                state = next;
             }
         }
     }
