@@ -89,9 +89,8 @@ fresh-parser-requires c κs = search needs
 
 loop-holds : tie.Need-loop-holds Inv-loop μ-loop
 loop-holds c =
-    let args = c .before .before .before .before .before .before .before .before .before .before .before .args in
     let if1 = c .before .before .before .if1 in
-    let a = args in
+    let a = c .before .before .before .before .before .before .before .before .before .before .before .args in
     let f = fresh-reads (a .doc .now) (replicate 213 0) refl in
     rw (c .before .fresh-parser .ensures .1) (f .1, start _ _ _ (f .0) (if1 .left) (omega arith))
 

@@ -10,8 +10,7 @@ use Rattle.listing_text.proofs.writing.put_number.Tie as tie
 
 few : (c : tie.After-decimal) → c .decimal .result ≤ 20
 few c =
-    let fits′ = c .before .before .before .fits in
-    let fits = fits′ in
+    let fits = c .before .before .before .fits in
     at-most-20 _ _ (fits .n .fits) (c .decimal .ensures .1 .0)
 
 decimal-requires : tie.Need-decimal-requires

@@ -37,20 +37,17 @@ returns c = let h = c .before .before in others _ _ (h .look-up .result) (h .loo
 
 sub-result : tie.Need-sub-result
 sub-result c =
-    let look-up′ = c .before .before .before .look-up in
-    let look-up = look-up′ in
+    let look-up = c .before .before .before .look-up in
     part-within _ _ (look-up .ensures) (c .before .p .given .1) .starts
 
 part-result-start : tie.Need-part-result-start
 part-result-start c =
-    let look-up′ = c .before .before .before .look-up in
-    let look-up = look-up′ in
+    let look-up = c .before .before .before .look-up in
     let p = part-within _ _ (look-up .ensures) (c .before .p .given .1) in search needs
 
 part-result-end : tie.Need-part-result-end
 part-result-end c =
-    let look-up′ = c .before .before .before .look-up in
-    let look-up = look-up′ in
+    let look-up = c .before .before .before .look-up in
     let p = part-within _ _ (look-up .ensures) (c .before .p .given .1) in search needs
 
 returns-2 : tie.Need-returns-2

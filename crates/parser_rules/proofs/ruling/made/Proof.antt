@@ -120,8 +120,7 @@ returns c = rw (c .gives-on .ensures, c .before .enum-told .given .1)
 returns-2 : tie.Need-returns-2
 unfolding madeBy
 returns-2 c =
-    let awaited-line′ = c .before .before .before .awaited-line in
-    let awaited-line = awaited-line′ in
+    let awaited-line = c .before .before .before .awaited-line in
     rw (c .no-value .ensures, c .before .enum-told2 .given .1, awaited-line .ensures)
 
 -- src/ruling.rt:162:1
@@ -138,24 +137,21 @@ returns-4 c = rw (c .gives-on3 .ensures, c .before .enum-told4 .given .1)
 returns-5 : tie.Need-returns-5
 unfolding madeBy
 returns-5 c =
-    let line-number′ = c .before .before .before .before .line-number in
-    let line-number = line-number′ in
+    let line-number = c .before .before .before .before .line-number in
     rw (c .gives-on4 .ensures, c .before .enum-told5 .given .1, line-number .ensures)
 
 -- src/ruling.rt:162:1
 returns-6 : tie.Need-returns-6
 unfolding madeBy
 returns-6 c =
-    let line-number′ = c .before .before .before .before .line-number in
-    let line-number = line-number′ in
+    let line-number = c .before .before .before .before .line-number in
     rw (c .gives-on5 .ensures, c .before .enum-told6 .given .1, line-number .ensures)
 
 -- src/ruling.rt:162:1
 returns-7 : tie.Need-returns-7
 unfolding madeBy
 returns-7 c =
-    let awaited-line′ = c .before .before .before .awaited-line in
-    let awaited-line = awaited-line′ in
+    let awaited-line = c .before .before .before .awaited-line in
     rw (c .gives-on6 .ensures, c .before .enum-told7 .given .1, awaited-line .ensures)
 
 -- src/ruling.rt:162:1
@@ -172,16 +168,14 @@ returns-9 c = rw (c .enum-told9 .given .1)
 returns-10 : tie.Need-returns-10
 unfolding madeBy
 returns-10 c =
-    let line-number′ = c .before .before .before .before .before .line-number in
-    let line-number = line-number′ in
+    let line-number = c .before .before .before .before .before .line-number in
     rw (c .refuse .ensures, c .before .before .v .given .1, line-number .ensures)
 
 -- src/ruling.rt:162:1
 returns-11 : tie.Need-returns-11
 unfolding madeBy
 returns-11 c =
-    let awaited-line′ = c .before .before .before .awaited-line in
-    let awaited-line = awaited-line′ in
+    let awaited-line = c .before .before .before .awaited-line in
     rw (c .refuse2 .ensures, c .before .enum-told10 .given .1, awaited-line .ensures)
 
 -- src/ruling.rt:162:1

@@ -27,9 +27,7 @@ shared-slice-read-if1 c = search needs
 
 returns : tie.Need-returns Inv-loop μ-loop
 returns c =
-    let loop-here′ = c .before .before .before .loop in
-    let loop-here = loop-here′ in
-    let l = loop-here in
+    let l = c .before .before .before .loop in
     let e : 213 - l .i ≡ suc (213 - (l .i + 1)) = omega arith in
     rw (l .inv .1, e, sorts-more, lt-leb _ _ (c .if1 .taken))
 
@@ -41,9 +39,7 @@ loop-less c = omega arith
 
 loop-again : tie.Need-loop-again Inv-loop μ-loop
 loop-again c =
-    let loop-here′ = c .before .before .before .loop in
-    let loop-here = loop-here′ in
-    let l = loop-here in
+    let l = c .before .before .before .loop in
     let e : 213 - l .i ≡ suc (213 - (l .i + 1)) = omega arith in
     (omega arith, rw (l .inv .1, e, sorts-more, le-leb _ _ (c .if1 .left)))
 

@@ -53,8 +53,7 @@ same-length c = c .before .loop .inv .1 .0
 
 returns : tie.Need-returns Inv-loop μ-loop
 returns c =
-    let args′ = c .before .before .before .args in
-    let args = args′ in
+    let args = c .before .before .before .args in
     let l : length (args .t1) ≤ c .before .loop .k = omega arith in
     rw (sorts-all _ _ l) at (c .before .loop .inv .1 .1)
 

@@ -37,8 +37,7 @@ element-copy-out-t30 c = search needs
 returns : tie.Need-returns
 unfolding stateIn
 returns c =
-    let held-by′ = c .before .before .before .before .before .before .held-by in
-    let held-by = held-by′ in
+    let held-by = c .before .before .before .before .before .before .held-by in
     rw (held-by .ensures)
 
 pub front-in-spec : {M : Type 1} → statement M

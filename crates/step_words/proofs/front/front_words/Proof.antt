@@ -28,8 +28,7 @@ array-read-t17 c = search needs
 returns : tie.Need-returns
 unfolding frontWordsBy
 returns c =
-    let held-words′′ = c .before .before .before .held-words in
-    let held-words′ = held-words′′ in
+    let held-words′ = c .before .before .before .held-words in
     rw (c .before .before .flag-of .ensures, c .before .flag-of2 .ensures, c .flag-of3 .ensures, held-words′ .ensures, held-words)
 
 pub front-words-spec : {M : Type 1} → statement M

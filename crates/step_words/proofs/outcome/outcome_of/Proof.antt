@@ -140,8 +140,7 @@ returns-9 c = rw (c .denies .ensures, c .before .enum-told9 .given .1)
 returns-10 : tie.Need-returns-10
 unfolding outcomeBy
 returns-10 c =
-    let v′ = c .before .before .before .v in
-    let v = v′ in
+    let v = c .before .before .before .v in
     rw (c .denies2 .ensures, c .before .say2 .ensures, v .given .1)
 
 returns-11 : tie.Need-returns-11

@@ -55,12 +55,9 @@ same-length c = search needs
 
 returns-2 : tie.Need-returns-2
 returns-2 c =
-    let args′ = c .before .before .before .before .before .before .before .before .args in
-    let if1′ = c .before .before .before .before .if1 in
-    let args = args′ in
-    let if1 = if1′ in
+    let if1 = c .before .before .before .before .if1 in
     let p = c .before .put-parser in
-    let a = args in
+    let a = c .before .before .before .before .before .before .before .before .args in
     unread (a .doc .now) (a .state .now) (a .rows .now) (a .state .now) (a .state .now) (if1 .left) (sym (p .ensures .0) ∙ not-true _ (c .if2 .taken))
 
 starts-unfit-requires : tie.Need-starts-unfit-requires
@@ -104,8 +101,7 @@ same-length-6 c = search needs
 
 returns-5 : tie.Need-returns-5
 returns-5 c =
-    let if4′ = c .before .before .before .before .before .if4 in
-    let if4 = if4′ in
+    let if4 = c .before .before .before .before .before .if4 in
     let t = c .before .before .before .before .before .before .before .before .before .before in
     let k = t .before .before .before .before .before .before in
     let a = begin (k .before) .args in

@@ -25,8 +25,7 @@ fits-requires c κs = search needs
 
 returns-2 : tie.Need-returns-2
 returns-2 c =
-    let load-parser′ = c .before .before .before .load-parser in
-    let load-parser = load-parser′ in
+    let load-parser = c .before .before .before .load-parser in
     let k = c .before .before .before .before in
     let r = sym (k .before .is-parser .ensures) ∙ not-false _ (k .if1 .left) in
     let l = load-parser .ensures ∙ loaded-213 _ (has-213 _ r) in

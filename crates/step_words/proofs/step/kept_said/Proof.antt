@@ -32,8 +32,7 @@ element-copy-out-t22 c = search needs
 
 returns-2 : tie.Need-returns-2
 returns-2 c =
-    let if1′ = c .before .before .before .before .before .before .if1 in
-    let if1 = if1′ in
+    let if1 = c .before .before .before .before .before .before .if1 in
     rw (ne-eqb _ _ (if1 .left))
 
 pub kept-said-spec : {M : Type 1} → statement M

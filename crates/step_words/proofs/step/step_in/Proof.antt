@@ -31,29 +31,24 @@ layer c = start c .args .layer
 
 abbrev came : tie.After-outcome-of → Advanced
 came c =
-    let came′ = c .before .before .before .before .before .before .came in
-    let came = came′ in
+    let came = c .before .before .before .before .before .before .came in
     came .result
 
 -- what came, and what it leaves
 comes : (c : tie.After-outcome-of) → came c ≡ cameIn (layer c) (doc c) (words c)
 comes c =
-    let came′ = c .before .before .before .before .before .before .came in
-    let came = came′ in
+    let came = c .before .before .before .before .before .before .came in
     came .ensures
 
 left : (c : tie.After-outcome-of) → c .outcome-of .result ≡ outcomeFor (layer c) (came c .said) (words c)
 left c =
-    let judged′ = c .before .before .before .judged in
-    let judged = judged′ in
+    let judged = c .before .before .before .judged in
     c .outcome-of .ensures ∙ ap (λ v. outcomeBy v (came c .said) (getD (words c) 138 0) (getD (words c) 139 0)) (judged .ensures)
 
 does : (c : tie.After-outcome-of) → stepIn (layer c) (doc c) (words c) ≡ goneBy (layer c) (came c) (c .outcome-of .result) (words c)
 does c =
-    let is-refused′ = c .before .before .before .before .before .before .before .before .before .is-refused in
-    let if1′ = c .before .before .before .before .before .before .before .before .if1 in
-    let is-refused = is-refused′ in
-    let if1 = if1′ in
+    let is-refused = c .before .before .before .before .before .before .before .before .before .is-refused in
+    let if1 = c .before .before .before .before .before .before .before .before .if1 in
     goes (layer c) (doc c) (words c) (sym (is-refused .ensures) ∙ if1 .left)
     ∙ ap (λ (m : Advanced). goneBy (layer c) m (outcomeFor (layer c) (m .said) (words c)) (words c)) (sym (comes c))
     ∙ ap (λ o. goneBy (layer c) (came c) o (words c)) (sym (left c))
@@ -64,9 +59,7 @@ is-refused-requires c κs = search needs
 returns : tie.Need-returns
 unfolding stepIn stopsAt
 returns c =
-    let args′ = c .before .before .before .before .before .args in
-    let args = args′ in
-    let a = args in
+    let a = c .before .before .before .before .before .args in
     let e = refused (a .layer) (a .doc .now) (a .w .now) (sym (c .before .is-refused .ensures) ∙ c .if1 .taken) in
     subst (λ g. Does g 0 (a .w .now) (a .at) (a .rows .now) (a .rows .now)) (sym e) (stops-does 0 (a .w .now) (a .at) (a .rows .now) refl)
 
@@ -84,13 +77,10 @@ element-copy-out-outcome-of-2 c = search needs
 
 outcome-of-requires : tie.Need-outcome-of-requires
 outcome-of-requires c κs =
-    let came′ = c .before .before .before .before .before .came in
-    let args′ = c .before .before .before .before .before .before .before .before .before .before .before .before .args in
-    let came = came′ in
-    let args = args′ in
+    let came = c .before .before .before .before .before .came in
     let v = c .before .before .judged in
     let k = came .result .said .number in
-    let a = args in
+    let a = c .before .before .before .before .before .before .before .before .before .before .before .before .args in
     subst Few (sym (v .ensures)) (few (getD (a .w .now) 147 0) (judgedIn (a .layer) k (a .w .now)) (sound (a .layer) k (a .w .now)))
 
 stops-requires : tie.Need-stops-requires
@@ -131,10 +121,8 @@ same-length c = search needs
 
 returns-3 : tie.Need-returns-3
 returns-3 c =
-    let stops′ = c .before .before .before .before .before .before .before .before .before .before .before .before .stops in
-    let if2′ = c .before .before .before .before .before .before .before .before .before .before .before .if2 in
-    let stops = stops′ in
-    let if2 = if2′ in
+    let stops = c .before .before .before .before .before .before .before .before .before .before .before .before .stops in
+    let if2 = c .before .before .before .before .before .before .before .before .before .before .before .if2 in
     let m = c .before .before .before .before .before .before .before .before .before .before .before .before .before .before in
     let o = m .outcome-of .result in
     let w = words m in

@@ -24,8 +24,7 @@ same-length c = search needs
 returns-2 : tie.Need-returns-2
 unfolding batchOf
 returns-2 c =
-    let if1′ = c .before .before .before .before .if1 in
-    let if1 = if1′ in
+    let if1 = c .before .before .before .before .if1 in
     let p = c .before .put-tokenizer in
     promised (unfit _ _ _ _ _ (if1 .left) (sym (p .ensures .0) ∙ not-true _ (c .if2 .taken)))
 

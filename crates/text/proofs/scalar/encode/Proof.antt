@@ -34,10 +34,8 @@ trail-requires c κs = search needs
 returns-3 : tie.Need-returns-3
 unfolding encodedOf encodingOf encoding
 returns-3 c =
-    let is-scalar′ = c .before .before .before .before .is-scalar in
-    let if1′ = c .before .before .before .if1 in
-    let is-scalar = is-scalar′ in
-    let if1 = if1′ in
+    let is-scalar = c .before .before .before .before .is-scalar in
+    let if1 = c .before .before .before .if1 in
     rw (sym (is-scalar .ensures) ∙ not-false _ (if1 .left), le-ltb _ _ (c .before .before .if2 .left), lt-ltb _ _ (c .before .if3 .taken), c .trail .ensures)
 
 cast-t13 : tie.Need-cast-t13
@@ -55,30 +53,22 @@ trail-requires-3 c κs = search needs
 returns-4 : tie.Need-returns-4
 unfolding encodedOf encodingOf encoding
 returns-4 c =
-    let is-scalar′ = c .before .before .before .before .before .before .is-scalar in
-    let if1′ = c .before .before .before .before .before .if1 in
-    let if2′ = c .before .before .before .before .if2 in
-    let if3′ = c .before .before .before .if3 in
-    let is-scalar = is-scalar′ in
-    let if1 = if1′ in
-    let if2 = if2′ in
-    let if3 = if3′ in
+    let is-scalar = c .before .before .before .before .before .before .is-scalar in
+    let if1 = c .before .before .before .before .before .if1 in
+    let if2 = c .before .before .before .before .if2 in
+    let if3 = c .before .before .before .if3 in
     rw (sym (is-scalar .ensures) ∙ not-false _ (if1 .left), le-ltb _ _ (if2 .left), le-ltb _ _ (if3 .left), lt-ltb _ _ (c .before .before .if4 .taken), c .before .trail2 .ensures, c .trail3 .ensures)
 
 cast-t20 : tie.Need-cast-t20
 cast-t20 c =
-    let is-scalar′ = c .before .before .before .before .is-scalar in
-    let if1′ = c .before .before .before .if1 in
-    let is-scalar = is-scalar′ in
-    let if1 = if1′ in
+    let is-scalar = c .before .before .before .before .is-scalar in
+    let if1 = c .before .before .before .if1 in
     omega (arith, scalar-le _ (sym (is-scalar .ensures) ∙ not-false _ (if1 .left)))
 
 add-t21 : tie.Need-add-t21
 add-t21 c =
-    let is-scalar′ = c .before .before .before .before .is-scalar in
-    let if1′ = c .before .before .before .if1 in
-    let is-scalar = is-scalar′ in
-    let if1 = if1′ in
+    let is-scalar = c .before .before .before .before .is-scalar in
+    let if1 = c .before .before .before .if1 in
     omega (arith, scalar-le _ (sym (is-scalar .ensures) ∙ not-false _ (if1 .left)))
 
 trail-requires-4 : tie.Need-trail-requires-4
@@ -93,16 +83,11 @@ trail-requires-6 c κs = search needs
 returns-5 : tie.Need-returns-5
 unfolding encodedOf encodingOf encoding
 returns-5 c =
-    let is-scalar′ = c .before .before .before .before .before .before .before .is-scalar in
-    let if1′ = c .before .before .before .before .before .before .if1 in
-    let if2′ = c .before .before .before .before .before .if2 in
-    let if3′ = c .before .before .before .before .if3 in
-    let if4′ = c .before .before .before .if4 in
-    let is-scalar = is-scalar′ in
-    let if1 = if1′ in
-    let if2 = if2′ in
-    let if3 = if3′ in
-    let if4 = if4′ in
+    let is-scalar = c .before .before .before .before .before .before .before .is-scalar in
+    let if1 = c .before .before .before .before .before .before .if1 in
+    let if2 = c .before .before .before .before .before .if2 in
+    let if3 = c .before .before .before .before .if3 in
+    let if4 = c .before .before .before .if4 in
     rw (sym (is-scalar .ensures) ∙ not-false _ (if1 .left), le-ltb _ _ (if2 .left), le-ltb _ _ (if3 .left), le-ltb _ _ (if4 .left), c .before .before .trail4 .ensures, c .before .trail5 .ensures, c .trail6 .ensures)
 
 pub encode-spec : {M : Type 1} → statement M

@@ -31,8 +31,7 @@ returns-2 c = rw (c .before .before .enum-told2 .given .1, ← c .before .is-whi
 returns-3 : tie.Need-returns-3
 unfolding dropped
 returns-3 c =
-    let enum-told2′ = c .before .before .before .enum-told2 in
-    let enum-told2 = enum-told2′ in
+    let enum-told2 = c .before .before .before .enum-told2 in
     rw (enum-told2 .given .1, ← c .before .before .is-whitespace2 .ensures, c .before .if1 .left, c .is-newline .ensures)
 
 pub drops-spec : {M : Type 1} → statement M

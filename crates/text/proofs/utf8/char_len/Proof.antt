@@ -33,26 +33,20 @@ enum-told-2 c = search needs
 
 returns-2 : tie.Need-returns-2
 returns-2 c =
-    let first-of′ = c .before .before .before .before .before .before .first-of in
-    let b′ = c .before .before .before .before .b in
-    let first-of = first-of′ in
-    let b = b′ in
+    let first-of = c .before .before .before .before .before .before .first-of in
+    let b = c .before .before .before .before .b in
     sym (bad-lead _ _ (sym (first-of .ensures) ∙ b .given .1) (sym (c .before .before .lead-of .ensures) ∙ c .enum-told2 .given .1))
 
 sub-follows : tie.Need-sub-follows
 sub-follows c =
-    let first-of′ = c .before .before .before .before .before .before .before .first-of in
-    let b′ = c .before .before .before .before .before .b in
-    let first-of = first-of′ in
-    let b = b′ in
+    let first-of = c .before .before .before .before .before .before .before .first-of in
+    let b = c .before .before .before .before .before .b in
     some _ _ (sym (first-of .ensures) ∙ b .given .1)
 
 part-follows-start : tie.Need-part-follows-start
 part-follows-start c =
-    let first-of′ = c .before .before .before .before .before .before .before .first-of in
-    let b′ = c .before .before .before .before .before .b in
-    let first-of = first-of′ in
-    let b = b′ in
+    let first-of = c .before .before .before .before .before .before .before .first-of in
+    let b = c .before .before .before .before .before .b in
     let h = some _ _ (sym (first-of .ensures) ∙ b .given .1) in search needs
 
 part-follows-end : tie.Need-part-follows-end
@@ -66,28 +60,20 @@ add-result c = omega (arith, followed-le _ _ _ _ (sym (c .before .follows .ensur
 
 returns-3 : tie.Need-returns-3
 returns-3 c =
-    let first-of′ = c .before .before .before .before .before .before .before .before .before .before .first-of in
-    let b′ = c .before .before .before .before .before .before .before .before .b in
-    let lead-of′ = c .before .before .before .before .before .before .lead-of in
-    let more′ = c .before .before .before .before .more in
-    let first-of = first-of′ in
-    let b = b′ in
-    let lead-of = lead-of′ in
-    let more = more′ in
+    let first-of = c .before .before .before .before .before .before .before .before .before .before .first-of in
+    let b = c .before .before .before .before .before .before .before .before .b in
+    let lead-of = c .before .before .before .before .before .before .lead-of in
+    let more = c .before .before .before .before .more in
     sym
     (good-lead _ _ _ _ _ (sym (first-of .ensures) ∙ b .given .1) (sym (lead-of .ensures) ∙ more .given .1)
     ∙ rw (rw from at (sym (c .before .follows .ensures) ∙ c .if1 .taken), add-one))
 
 returns-4 : tie.Need-returns-4
 returns-4 c =
-    let first-of′ = c .before .before .before .before .before .before .before .before .before .before .first-of in
-    let b′ = c .before .before .before .before .before .before .before .before .b in
-    let lead-of′ = c .before .before .before .before .before .before .lead-of in
-    let more′ = c .before .before .before .before .more in
-    let first-of = first-of′ in
-    let b = b′ in
-    let lead-of = lead-of′ in
-    let more = more′ in
+    let first-of = c .before .before .before .before .before .before .before .before .before .before .first-of in
+    let b = c .before .before .before .before .before .before .before .before .b in
+    let lead-of = c .before .before .before .before .before .before .lead-of in
+    let more = c .before .before .before .before .more in
     sym
     (good-lead _ _ _ _ _ (sym (first-of .ensures) ∙ b .given .1) (sym (lead-of .ensures) ∙ more .given .1)
     ∙ rw (rw from at (sym (c .before .follows .ensures) ∙ c .if1 .left)))

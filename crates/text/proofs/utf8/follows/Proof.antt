@@ -35,8 +35,7 @@ shared-slice-read-if3 c = search needs
 
 returns-3 : tie.Need-returns-3 Inv-loop μ-loop
 returns-3 c =
-    let if1′ = c .before .before .before .before .if1 in
-    let if1 = if1′ in
+    let if1 = c .before .before .before .before .if1 in
     let h = c .before .before .before .before .before in
     sym (h .before .loop .inv ∙ next _ _ _ _ _ (h .loop-test .taken) (if1 .left) ∙ rw (above _ _ _ (c .if3 .taken)))
 
@@ -51,8 +50,7 @@ loop-less c = search needs
 
 loop-again : tie.Need-loop-again Inv-loop μ-loop
 loop-again c =
-    let if1′ = c .before .before .before .before .if1 in
-    let if1 = if1′ in
+    let if1 = c .before .before .before .before .if1 in
     let h = c .before .before .before .before .before in
     h .before .loop .inv ∙ next _ _ _ _ _ (h .loop-test .taken) (if1 .left)
     ∙ rw (inside _ _ _ (c .before .before .if2 .left) (c .if3 .left))

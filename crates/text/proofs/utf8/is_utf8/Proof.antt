@@ -61,14 +61,12 @@ returns c =
 
 add-i-2 : tie.Need-add-i-2 Inv-loop μ-loop
 add-i-2 c =
-    let loop-here′ = c .before .before .before .before .before .before .loop in
-    let loop-here = loop-here′ in
+    let loop-here = c .before .before .before .before .before .before .loop in
     omega (arith, at-le _ _ _ (sym (rw from at (c .before .char-len .ensures))) (loop-here .inv .0))
 
 loop-less-2 : tie.Need-loop-less-2 Inv-loop μ-loop
 loop-less-2 c =
-    let loop-here′ = c .before .before .before .before .before .before .loop in
-    let loop-here = loop-here′ in
+    let loop-here = c .before .before .before .before .before .before .loop in
     omega (arith, at-le _ _ _ (sym (rw from at (c .before .char-len .ensures))) (loop-here .inv .0))
 
 loop-again-2 : tie.Need-loop-again-2 Inv-loop μ-loop

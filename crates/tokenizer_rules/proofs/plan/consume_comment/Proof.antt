@@ -21,8 +21,7 @@ add-pass-2 c = omega (arith, count-le notBreak (c .before .before .args .r .now)
 
 slice-aggregate-checked : tie.Need-slice-aggregate-checked
 slice-aggregate-checked c =
-    let args′ = c .before .before .before .args in
-    let args = args′ in
+    let args = c .before .before .before .args in
     sym (length-take-le _ _ (omega (arith, count-le notBreak (args .r .now))))
 
 checked-requires : tie.Need-checked-requires
@@ -57,8 +56,7 @@ kept-requires-2 c κs = search needs
 returns-2 : tie.Need-returns-2
 unfolding planComment
 returns-2 c =
-    let p′ = c .before .before .before .p in
-    let p = p′ in
+    let p = c .before .before .before .p in
     let h = c .before .before .before .before .before in
     rw (← h .before .before .line-end .ensures, sym (h .checked .ensures) ∙ p .given .1)
     (c .kept2 .ensures ∙ rw (c .before .shifted .ensures))

@@ -35,8 +35,7 @@ add-pass-2 c =
 
 slice-aggregate-checked : tie.Need-slice-aggregate-checked
 slice-aggregate-checked c =
-    let args′ = c .before .before .before .before .before .args in
-    let args = args′ in
+    let args = c .before .before .before .before .before .args in
     sym (length-take-le _ _ (omega (arith, text-le 61 (args .w .now))))
 
 checked-requires : tie.Need-checked-requires
@@ -71,8 +70,7 @@ kept-requires-2 c κs = search needs
 returns-2 : tie.Need-returns-2
 unfolding planKey
 returns-2 c =
-    let p′ = c .before .before .before .p in
-    let p = p′ in
+    let p = c .before .before .before .p in
     let h = c .before .before .before .before .before in
     let e = h .before .before in
     rw (← e .before .before .text-len .ensures, ← (rw from at (e .eq-size .ensures)), sym (h .checked .ensures) ∙ p .given .1)

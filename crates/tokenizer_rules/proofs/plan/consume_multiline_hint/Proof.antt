@@ -31,14 +31,12 @@ add-passed c = search needs
 
 add-passed-2 : tie.Need-add-passed-2
 add-passed-2 c =
-    let args′ = c .before .before .before .before .before .args in
-    let args = args′ in
+    let args = c .before .before .before .before .before .args in
     omega (arith, plain-le 59 (args .r .now))
 
 slice-aggregate-checked : tie.Need-slice-aggregate-checked
 slice-aggregate-checked c =
-    let args′ = c .before .before .before .before .before .before .args in
-    let args = args′ in
+    let args = c .before .before .before .before .before .before .args in
     sym (length-take-le _ _ (omega (arith, plain-le 59 (args .r .now))))
 
 checked-requires : tie.Need-checked-requires
@@ -77,8 +75,7 @@ kept-requires-3 c κs = search needs
 returns-3 : tie.Need-returns-3
 unfolding planHint
 returns-3 c =
-    let p′ = c .before .before .before .p in
-    let p = p′ in
+    let p = c .before .before .before .p in
     let h = c .before .before .before .before .before in
     let n = h .before .before in
     rw (sym (n .before .before .starts-with .ensures) ∙ n .before .if1 .left)

@@ -31,8 +31,7 @@ consume-multiline-hint-requires c κs = rw (from, length-drop) (omega (arith, hi
 returns : tie.Need-returns
 unfolding planValue
 returns c =
-    let begins-hint′ = c .before .before .before .begins-hint in
-    let begins-hint = begins-hint′ in
+    let begins-hint = c .before .before .before .begins-hint in
     rw (sym (begins-hint .ensures) ∙ c .before .before .if1 .taken) (rw from at (c .consume-multiline-hint .ensures))
 
 text-len-requires : tie.Need-text-len-requires
@@ -40,8 +39,7 @@ text-len-requires c κs = search needs
 
 slice-aggregate-checked : tie.Need-slice-aggregate-checked
 slice-aggregate-checked c =
-    let args′ = c .before .before .before .before .before .args in
-    let args = args′ in
+    let args = c .before .before .before .before .before .args in
     sym (length-take-le _ _ (omega (arith, text-le 59 (args .w .now))))
 
 checked-requires : tie.Need-checked-requires
@@ -55,8 +53,7 @@ enum-told c = search needs
 
 add-kept : tie.Need-add-kept
 add-kept c =
-    let args′ = c .before .before .before .before .before .before .before .before .args in
-    let args = args′ in
+    let args = c .before .before .before .before .before .before .before .before .args in
     omega (arith, text-le 59 (args .w .now))
 
 kept-requires : tie.Need-kept-requires
@@ -79,8 +76,7 @@ shifted-requires c κs =
 
 add-kept-2 : tie.Need-add-kept-2
 add-kept-2 c =
-    let args′ = c .before .before .before .before .before .before .before .before .before .before .args in
-    let args = args′ in
+    let args = c .before .before .before .before .before .before .before .before .before .before .args in
     omega (arith, text-le 59 (args .w .now))
 
 kept-requires-2 : tie.Need-kept-requires-2
@@ -89,8 +85,7 @@ kept-requires-2 c κs = search needs
 returns-3 : tie.Need-returns-3
 unfolding planValue planPlain
 returns-3 c =
-    let p′ = c .before .before .before .p in
-    let p = p′ in
+    let p = c .before .before .before .p in
     let h = c .before .before .before .before .before in
     let n = h .before .before in
     rw (sym (n .before .before .begins-hint .ensures) ∙ n .before .if1 .left)

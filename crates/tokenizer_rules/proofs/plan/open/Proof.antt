@@ -13,8 +13,7 @@ line-end-requires c κs = search needs
 
 add-kept : tie.Need-add-kept
 add-kept c =
-    let args′ = c .before .before .before .args in
-    let args = args′ in
+    let args = c .before .before .before .args in
     omega (arith, count-le notBreak (args .w .now))
 
 kept-requires : tie.Need-kept-requires

@@ -20,14 +20,12 @@ returns c = sym (no-eq _ (sym (c .before .before .first-of .ensures) ∙ c .enum
 
 returns-2 : tie.Need-returns-2
 returns-2 c =
-    let first-of′ = c .before .before .before .before .first-of in
-    let first-of = first-of′ in
+    let first-of = c .before .before .before .before .first-of in
     sym (eq-first _ _ (sym (first-of .ensures) ∙ c .before .before .b .given .1) ∙ rw (eq-eqb _ _ (c .if1 .taken)))
 
 returns-3 : tie.Need-returns-3
 returns-3 c =
-    let first-of′ = c .before .before .before .before .first-of in
-    let first-of = first-of′ in
+    let first-of = c .before .before .before .before .first-of in
     sym (eq-first _ _ (sym (first-of .ensures) ∙ c .before .before .b .given .1) ∙ rw (ne-eqb _ _ (c .if1 .left)))
 
 pub eq-size-spec : {M : Type 1} → statement M

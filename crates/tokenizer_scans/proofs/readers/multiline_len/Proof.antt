@@ -43,8 +43,7 @@ belongs-requires c κs = search needs
 
 returns : tie.Need-returns Inv-loop μ-loop
 returns c =
-    let piece-len′ = c .before .before .before .piece-len in
-    let piece-len = piece-len′ in
+    let piece-len = c .before .before .before .piece-len in
     let h = c .before .before .before .before .before in
     sym
     (stop _ _ (h .before .loop .inv) (rw from at (piece-len .ensures))
@@ -71,8 +70,7 @@ loop-less c =
 
 loop-again : tie.Need-loop-again Inv-loop μ-loop
 loop-again c =
-    let if1′ = c .before .before .before .if1 in
-    let if1 = if1′ in
+    let if1 = c .before .before .before .if1 in
     let b = c .before .before .before .before in
     let h = b .before .before .before .before in
     let j = c .before .before .if2 in

@@ -32,14 +32,12 @@ returns c = sym (no-quotes _ (sym (c .before .before .first-of .ensures) ∙ c .
 
 returns-2 : tie.Need-returns-2 Inv-loop μ-loop
 returns-2 c =
-    let first-of′ = c .before .before .before .before .first-of in
-    let first-of = first-of′ in
+    let first-of = c .before .before .before .before .first-of in
     sym (begins _ _ (sym (first-of .ensures) ∙ c .before .before .first .given .1) ∙ rw (ne-eqb _ _ (c .if1 .taken)))
 
 loop-holds : tie.Need-loop-holds Inv-loop μ-loop
 loop-holds c =
-    let first-of′ = c .before .before .before .before .first-of in
-    let first-of = first-of′ in
+    let first-of = c .before .before .before .before .first-of in
     let e = sym (first-of .ensures) ∙ c .before .before .first .given .1 in
     (some _ _ e, begins _ _ e ∙ rw (eq-eqb _ _ (c .if1 .left)))
 
@@ -59,8 +57,7 @@ add-result c = search needs
 
 returns-4 : tie.Need-returns-4 Inv-loop μ-loop
 returns-4 c =
-    let is-newline′ = c .before .before .before .is-newline in
-    let is-newline = is-newline′ in
+    let is-newline = c .before .before .before .is-newline in
     let h = c .before .before .before .before .before in
     sym
     (h .before .loop .inv .1
@@ -75,8 +72,7 @@ loop-less c = search needs
 
 loop-again : tie.Need-loop-again Inv-loop μ-loop
 loop-again c =
-    let is-newline′ = c .before .before .before .is-newline in
-    let is-newline = is-newline′ in
+    let is-newline = c .before .before .before .is-newline in
     let h = c .before .before .before .before .before in (
       search needs,
       h .before .loop .inv .1

@@ -28,9 +28,7 @@ returns c = rw (← c .before .before .quotes-len .ensures, rw from at (c .plain
 
 add-result : tie.Need-add-result
 add-result c =
-    let args′ = c .before .before .before .before .args in
-    let args = args′ in
-    let a = args in
+    let a = c .before .before .before .before .args in
     omega (arith, returns c, text-le (a .also) (a .s .now))
 
 pub text-len-spec : {M : Type 1} → statement M

@@ -24,8 +24,7 @@ shared-slice-read-result-4 c = search needs
 returns-2 : tie.Need-returns-2
 unfolding readable
 returns-2 c =
-    let if1′ = c .before .before .before .before .if1 in
-    let if1 = if1′ in
+    let if1 = c .before .before .before .before .if1 in
     rw (le-leb _ _ (if1 .left))
 
 pub is-readable-spec : {M : Type 1} → statement M

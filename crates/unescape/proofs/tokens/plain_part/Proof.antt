@@ -14,20 +14,17 @@ enum-known-a c = search needs
 
 sub-result : tie.Need-sub-result
 sub-result c =
-    let start-of′ = c .before .before .before .start-of in
-    let start-of = start-of′ in
+    let start-of = c .before .before .before .start-of in
     part-lies _ _ (sym (start-of .ensures) ∙ c .before .a .given .1) .0
 
 part-result-start : tie.Need-part-result-start
 part-result-start c =
-    let start-of′ = c .before .before .before .start-of in
-    let start-of = start-of′ in
+    let start-of = c .before .before .before .start-of in
     part-lies _ _ (sym (start-of .ensures) ∙ c .before .a .given .1) .0
 
 part-result-end : tie.Need-part-result-end
 part-result-end c =
-    let start-of′ = c .before .before .before .start-of in
-    let start-of = start-of′ in
+    let start-of = c .before .before .before .start-of in
     part-lies _ _ (sym (start-of .ensures) ∙ c .before .a .given .1) .1
 
 enum-told : tie.Need-enum-told
@@ -38,18 +35,14 @@ slice-aggregate-result c = search needs
 
 returns : tie.Need-returns
 returns c =
-    let args′ = c .before .before .before .before .before .before .args in
-    let start-of′ = c .before .before .before .before .start-of in
-    let args = args′ in
-    let start-of = start-of′ in
+    let args = c .before .before .before .before .before .before .args in
+    let start-of = c .before .before .before .before .start-of in
     ap (λ x. plainBy x (args .s .now)) (sym (sym (start-of .ensures) ∙ c .before .before .a .given .1))
 
 returns-2 : tie.Need-returns-2
 returns-2 c =
-    let args′ = c .before .before .before .before .before .args in
-    let start-of′ = c .before .before .before .start-of in
-    let args = args′ in
-    let start-of = start-of′ in
+    let args = c .before .before .before .before .before .args in
+    let start-of = c .before .before .before .start-of in
     ap (λ x. plainBy x (args .s .now)) (sym (sym (start-of .ensures) ∙ c .before .enum-told .given .1))
 
 pub plain-part-spec : {M : Type 1} → statement M

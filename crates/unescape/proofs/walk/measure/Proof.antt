@@ -53,48 +53,35 @@ enum-known-piece c = search needs
 
 sub-len : tie.Need-sub-len Inv-loop μ-loop
 sub-len c =
-    let next-piece′ = c .before .before .before .before .next-piece in
-    let loop-here′ = c .before .before .before .before .before .before .loop in
-    let next-piece = next-piece′ in
-    let loop-here = loop-here′ in
+    let next-piece = c .before .before .before .before .next-piece in
+    let loop-here = c .before .before .before .before .before .before .loop in
     run-skips _ _ _ _ _ (rw from at (next-piece .ensures)) (loop-here .inv .within) (c .before .before .piece .given .1)
 
 add-len : tie.Need-add-len Inv-loop μ-loop
 add-len c =
-    let loop-here′ = c .before .before .before .before .before .before .loop in
-    let next-piece′ = c .before .before .before .before .next-piece in
-    let loop-here = loop-here′ in
-    let next-piece = next-piece′ in
+    let loop-here = c .before .before .before .before .before .before .loop in
+    let next-piece = c .before .before .before .before .next-piece in
     let m = count-run _ _ (loop-here .inv) (rw from at (next-piece .ensures)) (c .before .before .piece .given .1) in omega arith
 
 add-at : tie.Need-add-at Inv-loop μ-loop
 add-at c =
-    let loop-here′ = c .before .before .before .before .before .before .before .loop in
-    let next-piece′ = c .before .before .before .before .before .next-piece in
-    let piece′ = c .before .before .before .piece in
-    let loop-here = loop-here′ in
-    let next-piece = next-piece′ in
-    let piece = piece′ in
+    let loop-here = c .before .before .before .before .before .before .before .loop in
+    let next-piece = c .before .before .before .before .before .next-piece in
+    let piece = c .before .before .before .piece in
     let m = count-run _ _ (loop-here .inv) (rw from at (next-piece .ensures)) (piece .given .1) in omega arith
 
 loop-less : tie.Need-loop-less Inv-loop μ-loop
 loop-less c =
-    let next-piece′ = c .before .before .before .before .before .next-piece in
-    let loop-here′ = c .before .before .before .before .before .before .before .loop in
-    let piece′ = c .before .before .before .piece in
-    let next-piece = next-piece′ in
-    let loop-here = loop-here′ in
-    let piece = piece′ in
+    let next-piece = c .before .before .before .before .before .next-piece in
+    let loop-here = c .before .before .before .before .before .before .before .loop in
+    let piece = c .before .before .before .piece in
     run-moves _ _ _ _ _ (rw from at (next-piece .ensures)) (loop-here .inv .within) (piece .given .1) .falls
 
 loop-again : tie.Need-loop-again Inv-loop μ-loop
 loop-again c =
-    let loop-here′ = c .before .before .before .before .before .before .before .loop in
-    let next-piece′ = c .before .before .before .before .before .next-piece in
-    let piece′ = c .before .before .before .piece in
-    let loop-here = loop-here′ in
-    let next-piece = next-piece′ in
-    let piece = piece′ in
+    let loop-here = c .before .before .before .before .before .before .before .loop in
+    let next-piece = c .before .before .before .before .before .next-piece in
+    let piece = c .before .before .before .piece in
     count-run _ _ (loop-here .inv) (rw from at (next-piece .ensures)) (piece .given .1)
 
 enum-known-piece-2 : tie.Need-enum-known-piece-2 Inv-loop μ-loop
@@ -105,42 +92,30 @@ encode-requires c κs = search needs
 
 add-len-2 : tie.Need-add-len-2 Inv-loop μ-loop
 add-len-2 c =
-    let loop-here′ = c .before .before .before .before .before .before .before .loop in
-    let next-piece′ = c .before .before .before .before .before .next-piece in
-    let piece2′ = c .before .before .before .piece2 in
-    let loop-here = loop-here′ in
-    let next-piece = next-piece′ in
-    let piece2 = piece2′ in
+    let loop-here = c .before .before .before .before .before .before .before .loop in
+    let next-piece = c .before .before .before .before .before .next-piece in
+    let piece2 = c .before .before .before .piece2 in
     let m = count-scalar _ _ (loop-here .inv) (rw from at (next-piece .ensures)) (piece2 .given .1) in omega (arith, ap (λ (e : Encoded). e .len) (c .before .encode .ensures) ∙ encoded-len _)
 
 add-at-2 : tie.Need-add-at-2 Inv-loop μ-loop
 add-at-2 c =
-    let loop-here′ = c .before .before .before .before .before .before .before .before .loop in
-    let next-piece′ = c .before .before .before .before .before .before .next-piece in
-    let piece2′ = c .before .before .before .before .piece2 in
-    let loop-here = loop-here′ in
-    let next-piece = next-piece′ in
-    let piece2 = piece2′ in
+    let loop-here = c .before .before .before .before .before .before .before .before .loop in
+    let next-piece = c .before .before .before .before .before .before .next-piece in
+    let piece2 = c .before .before .before .before .piece2 in
     let m = count-scalar _ _ (loop-here .inv) (rw from at (next-piece .ensures)) (piece2 .given .1) in omega arith
 
 loop-less-2 : tie.Need-loop-less-2 Inv-loop μ-loop
 loop-less-2 c =
-    let next-piece′ = c .before .before .before .before .before .before .next-piece in
-    let loop-here′ = c .before .before .before .before .before .before .before .before .loop in
-    let piece2′ = c .before .before .before .before .piece2 in
-    let next-piece = next-piece′ in
-    let loop-here = loop-here′ in
-    let piece2 = piece2′ in
+    let next-piece = c .before .before .before .before .before .before .next-piece in
+    let loop-here = c .before .before .before .before .before .before .before .before .loop in
+    let piece2 = c .before .before .before .before .piece2 in
     scalar-moves _ _ _ _ _ (rw from at (next-piece .ensures)) (loop-here .inv .within) (piece2 .given .1) .falls
 
 loop-again-2 : tie.Need-loop-again-2 Inv-loop μ-loop
 loop-again-2 c =
-    let loop-here′ = c .before .before .before .before .before .before .before .before .loop in
-    let next-piece′ = c .before .before .before .before .before .before .next-piece in
-    let piece2′ = c .before .before .before .before .piece2 in
-    let loop-here = loop-here′ in
-    let next-piece = next-piece′ in
-    let piece2 = piece2′ in
+    let loop-here = c .before .before .before .before .before .before .before .before .loop in
+    let next-piece = c .before .before .before .before .before .before .next-piece in
+    let piece2 = c .before .before .before .before .piece2 in
     rw (ap (λ (e : Encoded). e .len) (c .before .before .encode .ensures) ∙ encoded-len _) (count-scalar _ _ (loop-here .inv) (rw from at (next-piece .ensures)) (piece2 .given .1))
 
 enum-told : tie.Need-enum-told Inv-loop μ-loop
@@ -148,8 +123,7 @@ enum-told c = search needs
 
 returns : tie.Need-returns Inv-loop μ-loop
 returns c =
-    let loop-here′ = c .before .before .before .before .loop in
-    let loop-here = loop-here′ in
+    let loop-here = c .before .before .before .before .loop in
     at-end _ _ (loop-here .inv) (rw from at (c .before .before .next-piece .ensures)) (c .enum-told .given .1)
 
 enum-known-piece-3 : tie.Need-enum-known-piece-3 Inv-loop μ-loop
@@ -157,18 +131,14 @@ enum-known-piece-3 c = search needs
 
 add-t20 : tie.Need-add-t20 Inv-loop μ-loop
 add-t20 c =
-    let next-piece′ = c .before .before .before .next-piece in
-    let loop-here′ = c .before .before .before .before .before .loop in
-    let next-piece = next-piece′ in
-    let loop-here = loop-here′ in
+    let next-piece = c .before .before .before .next-piece in
+    let loop-here = c .before .before .before .before .before .loop in
     omega (arith, code-within _ _ _ _ _ (rw from at (next-piece .ensures)) (loop-here .inv .within) (c .before .piece3 .given .1))
 
 returns-2 : tie.Need-returns-2 Inv-loop μ-loop
 returns-2 c =
-    let loop-here′ = c .before .before .before .before .before .loop in
-    let next-piece′ = c .before .before .before .next-piece in
-    let loop-here = loop-here′ in
-    let next-piece = next-piece′ in
+    let loop-here = c .before .before .before .before .before .loop in
+    let next-piece = c .before .before .before .next-piece in
     at-code _ _ (loop-here .inv) (rw from at (next-piece .ensures)) (c .before .piece3 .given .1)
 
 enum-known-piece-4 : tie.Need-enum-known-piece-4 Inv-loop μ-loop
@@ -176,10 +146,8 @@ enum-known-piece-4 c = search needs
 
 returns-3 : tie.Need-returns-3 Inv-loop μ-loop
 returns-3 c =
-    let loop-here′ = c .before .before .before .before .before .loop in
-    let next-piece′ = c .before .before .before .next-piece in
-    let loop-here = loop-here′ in
-    let next-piece = next-piece′ in
+    let loop-here = c .before .before .before .before .before .loop in
+    let next-piece = c .before .before .before .next-piece in
     at-refused _ _ (loop-here .inv) (rw from at (next-piece .ensures)) (c .before .piece4 .given .1)
 
 pub measure-spec : {M : Type 1} → statement M

@@ -17,10 +17,8 @@ slice-aggregate-copy c = sym (length-take-le _ _ (rw (c .before .before .encode 
 
 copy-requires : tie.Need-copy-requires
 copy-requires c κs =
-    let encode′ = c .before .before .before .encode in
-    let pre′ = c .before .before .before .before .before .pre in
-    let encode = encode′ in
-    let pre = pre′ in
+    let encode = c .before .before .before .encode in
+    let pre = c .before .before .before .before .before .pre in
     rw (encode .ensures, encoded-bytes) (pre)
 
 same-length : tie.Need-same-length
@@ -28,8 +26,7 @@ same-length c = search needs
 
 returns : tie.Need-returns
 returns c =
-    let encode′ = c .before .before .before .before .before .before .encode in
-    let encode = encode′ in
+    let encode = c .before .before .before .before .before .before .encode in
     let e = encode .ensures in
     (rw e (encoded-len _), c .before .before .copy .ensures ∙ rw (e, encoded-bytes))
 

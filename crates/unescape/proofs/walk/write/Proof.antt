@@ -23,8 +23,7 @@ abbrev μ-loop : tie.MeasureT-loop
 
 loop-holds : tie.Need-loop-holds Inv-loop μ-loop
 loop-holds c =
-    let pre′ = c .before .before .before .pre in
-    let pre = pre′ in
+    let pre = c .before .before .before .pre in
     let p = pre in (p .0, none-written _ _ (p .1))
 
 sub-next-piece : tie.Need-sub-next-piece Inv-loop μ-loop
@@ -44,42 +43,32 @@ enum-known-piece c = search needs
 
 add-copy : tie.Need-add-copy Inv-loop μ-loop
 add-copy c =
-    let next-piece′ = c .before .before .before .next-piece in
-    let loop-here′ = c .before .before .before .before .before .loop in
-    let next-piece = next-piece′ in
-    let loop-here = loop-here′ in
+    let next-piece = c .before .before .before .next-piece in
+    let loop-here = c .before .before .before .before .before .loop in
     let m = run-moves _ _ _ _ _ (rw from at (next-piece .ensures)) (loop-here .inv .0) (c .before .piece .given .1) in let k = run-skips _ _ _ _ _ (rw from at (next-piece .ensures)) (loop-here .inv .0) (c .before .piece .given .1) in omega arith
 
 add-copy-2 : tie.Need-add-copy-2 Inv-loop μ-loop
 add-copy-2 c =
-    let next-piece′ = c .before .before .before .next-piece in
-    let loop-here′ = c .before .before .before .before .before .loop in
-    let next-piece = next-piece′ in
-    let loop-here = loop-here′ in
+    let next-piece = c .before .before .before .next-piece in
+    let loop-here = c .before .before .before .before .before .loop in
     let m = run-moves _ _ _ _ _ (rw from at (next-piece .ensures)) (loop-here .inv .0) (c .before .piece .given .1) in let k = run-skips _ _ _ _ _ (rw from at (next-piece .ensures)) (loop-here .inv .0) (c .before .piece .given .1) in omega arith
 
 sub-copy : tie.Need-sub-copy Inv-loop μ-loop
 sub-copy c =
-    let next-piece′ = c .before .before .before .next-piece in
-    let loop-here′ = c .before .before .before .before .before .loop in
-    let next-piece = next-piece′ in
-    let loop-here = loop-here′ in
+    let next-piece = c .before .before .before .next-piece in
+    let loop-here = c .before .before .before .before .before .loop in
     let m = run-moves _ _ _ _ _ (rw from at (next-piece .ensures)) (loop-here .inv .0) (c .before .piece .given .1) in let k = run-skips _ _ _ _ _ (rw from at (next-piece .ensures)) (loop-here .inv .0) (c .before .piece .given .1) in omega arith
 
 part-copy-start : tie.Need-part-copy-start Inv-loop μ-loop
 part-copy-start c =
-    let next-piece′ = c .before .before .before .next-piece in
-    let loop-here′ = c .before .before .before .before .before .loop in
-    let next-piece = next-piece′ in
-    let loop-here = loop-here′ in
+    let next-piece = c .before .before .before .next-piece in
+    let loop-here = c .before .before .before .before .before .loop in
     let m = run-moves _ _ _ _ _ (rw from at (next-piece .ensures)) (loop-here .inv .0) (c .before .piece .given .1) in let k = run-skips _ _ _ _ _ (rw from at (next-piece .ensures)) (loop-here .inv .0) (c .before .piece .given .1) in omega arith
 
 part-copy-end : tie.Need-part-copy-end Inv-loop μ-loop
 part-copy-end c =
-    let next-piece′ = c .before .before .before .next-piece in
-    let loop-here′ = c .before .before .before .before .before .loop in
-    let next-piece = next-piece′ in
-    let loop-here = loop-here′ in
+    let next-piece = c .before .before .before .next-piece in
+    let loop-here = c .before .before .before .before .before .loop in
     let m = run-moves _ _ _ _ _ (rw from at (next-piece .ensures)) (loop-here .inv .0) (c .before .piece .given .1) in let k = run-skips _ _ _ _ _ (rw from at (next-piece .ensures)) (loop-here .inv .0) (c .before .piece .given .1) in omega arith
 
 sub-copy-2 : tie.Need-sub-copy-2 Inv-loop μ-loop
@@ -93,62 +82,44 @@ part-copy-end-2 c = search needs
 
 copy-requires : tie.Need-copy-requires Inv-loop μ-loop
 copy-requires c κs =
-    let loop-here′ = c .before .before .before .before .before .before .before .loop in
-    let next-piece′ = c .before .before .before .before .before .next-piece in
-    let piece′ = c .before .before .before .piece in
-    let loop-here = loop-here′ in
-    let next-piece = next-piece′ in
-    let piece = piece′ in
+    let loop-here = c .before .before .before .before .before .before .before .loop in
+    let next-piece = c .before .before .before .before .before .next-piece in
+    let piece = c .before .before .before .piece in
     run-fits _ _ _ _ (loop-here .inv .0) (loop-here .inv .1) _ (rw from at (next-piece .ensures)) (piece .given .1)
 
 sub-len : tie.Need-sub-len Inv-loop μ-loop
 sub-len c =
-    let next-piece′ = c .before .before .before .before .before .before .before .before .next-piece in
-    let loop-here′ = c .before .before .before .before .before .before .before .before .before .before .loop in
-    let piece′ = c .before .before .before .before .before .before .piece in
-    let next-piece = next-piece′ in
-    let loop-here = loop-here′ in
-    let piece = piece′ in
+    let next-piece = c .before .before .before .before .before .before .before .before .next-piece in
+    let loop-here = c .before .before .before .before .before .before .before .before .before .before .loop in
+    let piece = c .before .before .before .before .before .before .piece in
     run-skips _ _ _ _ _ (rw from at (next-piece .ensures)) (loop-here .inv .0) (piece .given .1)
 
 add-len : tie.Need-add-len Inv-loop μ-loop
 add-len c =
-    let loop-here′ = c .before .before .before .before .before .before .before .before .before .before .loop in
-    let next-piece′ = c .before .before .before .before .before .before .before .before .next-piece in
-    let piece′ = c .before .before .before .before .before .before .piece in
-    let loop-here = loop-here′ in
-    let next-piece = next-piece′ in
-    let piece = piece′ in
+    let loop-here = c .before .before .before .before .before .before .before .before .before .before .loop in
+    let next-piece = c .before .before .before .before .before .before .before .before .next-piece in
+    let piece = c .before .before .before .before .before .before .piece in
     let r = run-room _ _ _ _ (loop-here .inv .0) (loop-here .inv .1) _ (rw from at (next-piece .ensures)) (piece .given .1) in omega (arith, loop-here .inv .1 .same)
 
 add-at : tie.Need-add-at Inv-loop μ-loop
 add-at c =
-    let next-piece′ = c .before .before .before .before .before .before .before .before .next-piece in
-    let loop-here′ = c .before .before .before .before .before .before .before .before .before .before .loop in
-    let piece′ = c .before .before .before .before .before .before .piece in
-    let next-piece = next-piece′ in
-    let loop-here = loop-here′ in
-    let piece = piece′ in
+    let next-piece = c .before .before .before .before .before .before .before .before .next-piece in
+    let loop-here = c .before .before .before .before .before .before .before .before .before .before .loop in
+    let piece = c .before .before .before .before .before .before .piece in
     let m = run-moves _ _ _ _ _ (rw from at (next-piece .ensures)) (loop-here .inv .0) (piece .given .1) in omega arith
 
 loop-less : tie.Need-loop-less Inv-loop μ-loop
 loop-less c =
-    let next-piece′ = c .before .before .before .before .before .before .before .before .next-piece in
-    let loop-here′ = c .before .before .before .before .before .before .before .before .before .before .loop in
-    let piece′ = c .before .before .before .before .before .before .piece in
-    let next-piece = next-piece′ in
-    let loop-here = loop-here′ in
-    let piece = piece′ in
+    let next-piece = c .before .before .before .before .before .before .before .before .next-piece in
+    let loop-here = c .before .before .before .before .before .before .before .before .before .before .loop in
+    let piece = c .before .before .before .before .before .before .piece in
     run-moves _ _ _ _ _ (rw from at (next-piece .ensures)) (loop-here .inv .0) (piece .given .1) .falls
 
 loop-again : tie.Need-loop-again Inv-loop μ-loop
 loop-again c =
-    let next-piece′ = c .before .before .before .before .before .before .before .before .next-piece in
-    let loop-here′ = c .before .before .before .before .before .before .before .before .before .before .loop in
-    let piece′ = c .before .before .before .before .before .before .piece in
-    let next-piece = next-piece′ in
-    let loop-here = loop-here′ in
-    let piece = piece′ in
+    let next-piece = c .before .before .before .before .before .before .before .before .next-piece in
+    let loop-here = c .before .before .before .before .before .before .before .before .before .before .loop in
+    let piece = c .before .before .before .before .before .before .piece in
     (run-moves _ _ _ _ _ (rw from at (next-piece .ensures)) (loop-here .inv .0) (piece .given .1) .within, run-wrote _ _ _ _ (loop-here .inv .0) (loop-here .inv .1) _ (rw from at (next-piece .ensures)) (piece .given .1) (c .before .before .copy .ensures))
 
 enum-known-piece-2 : tie.Need-enum-known-piece-2 Inv-loop μ-loop
@@ -165,50 +136,36 @@ part-put-end c = search needs
 
 put-requires : tie.Need-put-requires Inv-loop μ-loop
 put-requires c κs =
-    let loop-here′ = c .before .before .before .before .before .before .loop in
-    let next-piece′ = c .before .before .before .before .next-piece in
-    let loop-here = loop-here′ in
-    let next-piece = next-piece′ in
+    let loop-here = c .before .before .before .before .before .before .loop in
+    let next-piece = c .before .before .before .before .next-piece in
     scalar-fits _ _ _ _ (loop-here .inv .0) (loop-here .inv .1) _ (rw from at (next-piece .ensures)) (c .before .before .piece2 .given .1)
 
 add-len-2 : tie.Need-add-len-2 Inv-loop μ-loop
 add-len-2 c =
-    let loop-here′ = c .before .before .before .before .before .before .before .before .before .loop in
-    let next-piece′ = c .before .before .before .before .before .before .before .next-piece in
-    let piece2′ = c .before .before .before .before .before .piece2 in
-    let loop-here = loop-here′ in
-    let next-piece = next-piece′ in
-    let piece2 = piece2′ in
+    let loop-here = c .before .before .before .before .before .before .before .before .before .loop in
+    let next-piece = c .before .before .before .before .before .before .before .next-piece in
+    let piece2 = c .before .before .before .before .before .piece2 in
     let r = scalar-room _ _ _ _ (loop-here .inv .0) (loop-here .inv .1) _ (rw from at (next-piece .ensures)) (piece2 .given .1) in omega (arith, c .before .before .put .ensures .0, loop-here .inv .1 .same)
 
 add-at-2 : tie.Need-add-at-2 Inv-loop μ-loop
 add-at-2 c =
-    let next-piece′ = c .before .before .before .before .before .before .before .next-piece in
-    let loop-here′ = c .before .before .before .before .before .before .before .before .before .loop in
-    let piece2′ = c .before .before .before .before .before .piece2 in
-    let next-piece = next-piece′ in
-    let loop-here = loop-here′ in
-    let piece2 = piece2′ in
+    let next-piece = c .before .before .before .before .before .before .before .next-piece in
+    let loop-here = c .before .before .before .before .before .before .before .before .before .loop in
+    let piece2 = c .before .before .before .before .before .piece2 in
     let m = scalar-moves _ _ _ _ _ (rw from at (next-piece .ensures)) (loop-here .inv .0) (piece2 .given .1) in omega arith
 
 loop-less-2 : tie.Need-loop-less-2 Inv-loop μ-loop
 loop-less-2 c =
-    let next-piece′ = c .before .before .before .before .before .before .before .next-piece in
-    let loop-here′ = c .before .before .before .before .before .before .before .before .before .loop in
-    let piece2′ = c .before .before .before .before .before .piece2 in
-    let next-piece = next-piece′ in
-    let loop-here = loop-here′ in
-    let piece2 = piece2′ in
+    let next-piece = c .before .before .before .before .before .before .before .next-piece in
+    let loop-here = c .before .before .before .before .before .before .before .before .before .loop in
+    let piece2 = c .before .before .before .before .before .piece2 in
     scalar-moves _ _ _ _ _ (rw from at (next-piece .ensures)) (loop-here .inv .0) (piece2 .given .1) .falls
 
 loop-again-2 : tie.Need-loop-again-2 Inv-loop μ-loop
 loop-again-2 c =
-    let next-piece′ = c .before .before .before .before .before .before .before .next-piece in
-    let loop-here′ = c .before .before .before .before .before .before .before .before .before .loop in
-    let piece2′ = c .before .before .before .before .before .piece2 in
-    let next-piece = next-piece′ in
-    let loop-here = loop-here′ in
-    let piece2 = piece2′ in
+    let next-piece = c .before .before .before .before .before .before .before .next-piece in
+    let loop-here = c .before .before .before .before .before .before .before .before .before .loop in
+    let piece2 = c .before .before .before .before .before .piece2 in
     (scalar-moves _ _ _ _ _ (rw from at (next-piece .ensures)) (loop-here .inv .0) (piece2 .given .1) .within, scalar-wrote _ _ _ _ (loop-here .inv .0) (loop-here .inv .1) _ (rw from at (next-piece .ensures)) (piece2 .given .1) (c .before .before .put .ensures .0) (c .before .before .put .ensures .1))
 
 enum-told : tie.Need-enum-told Inv-loop μ-loop
@@ -216,14 +173,12 @@ enum-told c = search needs
 
 same-length : tie.Need-same-length Inv-loop μ-loop
 same-length c =
-    let loop-here′ = c .before .before .before .before .loop in
-    let loop-here = loop-here′ in
+    let loop-here = c .before .before .before .before .loop in
     loop-here .inv .1 .same
 
 returns : tie.Need-returns Inv-loop μ-loop
 returns c =
-    let loop-here′ = c .before .before .before .before .loop in
-    let loop-here = loop-here′ in
+    let loop-here = c .before .before .before .before .loop in
     end-wrote _ _ _ _ (loop-here .inv .0) (loop-here .inv .1) _ (rw from at (c .before .before .next-piece .ensures)) (c .enum-told .given .1)
 
 enum-told-2 : tie.Need-enum-told-2 Inv-loop μ-loop
@@ -231,14 +186,12 @@ enum-told-2 c = search needs
 
 same-length-2 : tie.Need-same-length-2 Inv-loop μ-loop
 same-length-2 c =
-    let loop-here′ = c .before .before .before .before .loop in
-    let loop-here = loop-here′ in
+    let loop-here = c .before .before .before .before .loop in
     loop-here .inv .1 .same
 
 returns-2 : tie.Need-returns-2 Inv-loop μ-loop
 returns-2 c =
-    let loop-here′ = c .before .before .before .before .loop in
-    let loop-here = loop-here′ in
+    let loop-here = c .before .before .before .before .loop in
     absurd (code-none _ _ _ _ (loop-here .inv .0) (loop-here .inv .1) _ (rw from at (c .before .before .next-piece .ensures)) (c .enum-told2 .given .1))
 
 enum-told-3 : tie.Need-enum-told-3 Inv-loop μ-loop
@@ -246,14 +199,12 @@ enum-told-3 c = search needs
 
 same-length-3 : tie.Need-same-length-3 Inv-loop μ-loop
 same-length-3 c =
-    let loop-here′ = c .before .before .before .before .loop in
-    let loop-here = loop-here′ in
+    let loop-here = c .before .before .before .before .loop in
     loop-here .inv .1 .same
 
 returns-3 : tie.Need-returns-3 Inv-loop μ-loop
 returns-3 c =
-    let loop-here′ = c .before .before .before .before .loop in
-    let loop-here = loop-here′ in
+    let loop-here = c .before .before .before .before .loop in
     absurd (refused-none _ _ _ _ (loop-here .inv .0) (loop-here .inv .1) _ (rw from at (c .before .before .next-piece .ensures)) (c .enum-told3 .given .1))
 
 pub write-spec : {M : Type 1} → statement M

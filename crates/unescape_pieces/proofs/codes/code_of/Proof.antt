@@ -20,8 +20,7 @@ enum-told c = search needs
 
 returns-2 : tie.Need-returns-2
 returns-2 c =
-    let if1′ = c .before .before .before .if1 in
-    let if1 = if1′ in
+    let if1 = c .before .before .before .if1 in
     sym (no-code _ (if1 .left) (sym (c .before .before .first-of .ensures) ∙ c .enum-told .given .1))
 
 digits-value-requires : tie.Need-digits-value-requires
@@ -29,22 +28,16 @@ digits-value-requires c κs = search needs
 
 returns-3 : tie.Need-returns-3
 returns-3 c =
-    let first-of′ = c .before .before .before .before .before .first-of in
-    let b′ = c .before .before .before .b in
-    let if1′ = c .before .before .before .before .before .before .if1 in
-    let first-of = first-of′ in
-    let b = b′ in
-    let if1 = if1′ in
+    let first-of = c .before .before .before .before .before .first-of in
+    let b = c .before .before .before .b in
+    let if1 = c .before .before .before .before .before .before .if1 in
     c .digits-value .ensures ∙ sym (no-plus _ _ (sym (first-of .ensures) ∙ b .given .1) (if1 .left) (c .before .if2 .taken))
 
 returns-4 : tie.Need-returns-4
 returns-4 c =
-    let first-of′ = c .before .before .before .before .before .first-of in
-    let b′ = c .before .before .before .b in
-    let if1′ = c .before .before .before .before .before .before .if1 in
-    let first-of = first-of′ in
-    let b = b′ in
-    let if1 = if1′ in
+    let first-of = c .before .before .before .before .before .first-of in
+    let b = c .before .before .before .b in
+    let if1 = c .before .before .before .before .before .before .if1 in
     sym (plus-alone _ _ (sym (first-of .ensures) ∙ b .given .1) (if1 .left) (c .before .if2 .left) (c .if3 .taken))
 
 sub-digits-value : tie.Need-sub-digits-value
@@ -61,14 +54,10 @@ digits-value-requires-2 c κs = search needs
 
 returns-5 : tie.Need-returns-5
 returns-5 c =
-    let first-of′ = c .before .before .before .before .before .before .before .first-of in
-    let b′ = c .before .before .before .before .before .b in
-    let if1′ = c .before .before .before .before .before .before .before .before .if1 in
-    let if2′ = c .before .before .before .if2 in
-    let first-of = first-of′ in
-    let b = b′ in
-    let if1 = if1′ in
-    let if2 = if2′ in
+    let first-of = c .before .before .before .before .before .before .before .first-of in
+    let b = c .before .before .before .before .before .b in
+    let if1 = c .before .before .before .before .before .before .before .before .if1 in
+    let if2 = c .before .before .before .if2 in
     rw from at (c .digits-value2 .ensures) ∙ sym (plus _ _ (sym (first-of .ensures) ∙ b .given .1) (if1 .left) (if2 .left) (c .before .before .if3 .left))
 
 pub code-of-spec : {M : Type 1} → statement M

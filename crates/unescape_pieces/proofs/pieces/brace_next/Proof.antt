@@ -16,8 +16,7 @@ len-before-requires c κs = search needs
 
 add-t6 : tie.Need-add-t6
 add-t6 c =
-    let args′ = c .before .before .before .args in
-    let args = args′ in
+    let args = c .before .before .before .args in
     omega (arith, c .before .len-before .ensures, count-le inBrace (args .s .now))
 
 stop-requires : tie.Need-stop-requires
@@ -37,8 +36,7 @@ stop-requires-2 c κs = search needs
 
 returns-2 : tie.Need-returns-2
 returns-2 c =
-    let len-before′ = c .before .before .before .before .len-before in
-    let len-before = len-before′ in
+    let len-before = c .before .before .before .before .len-before in
     c .stop2 .ensures ∙ sym (brace-quote _ _ (len-before .ensures) (c .before .if2 .taken))
 
 slice-aggregate-code-of : tie.Need-slice-aggregate-code-of
@@ -58,12 +56,9 @@ stop-requires-3 c κs = search needs
 
 returns-3 : tie.Need-returns-3
 returns-3 c =
-    let len-before′ = c .before .before .before .before .before .before .before .before .len-before in
-    let if2′ = c .before .before .before .before .before .if2 in
-    let code-of′ = c .before .before .before .code-of in
-    let len-before = len-before′ in
-    let if2 = if2′ in
-    let code-of = code-of′ in
+    let len-before = c .before .before .before .before .before .before .before .before .len-before in
+    let if2 = c .before .before .before .before .before .if2 in
+    let code-of = c .before .before .before .code-of in
     c .stop3 .ensures
     ∙ sym (brace-bad _ _ (len-before .ensures) (if2 .left) (ap isScalar (sym (code-of .ensures)) ∙ sym (c .before .before .is-scalar .ensures) ∙ not-true _ (c .before .if3 .taken)))
 
@@ -72,10 +67,8 @@ add-t4 c = search needs
 
 returns-4 : tie.Need-returns-4
 returns-4 c =
-    let len-before′ = c .before .before .before .before .before .before .before .len-before in
-    let if2′ = c .before .before .before .before .if2 in
-    let len-before = len-before′ in
-    let if2 = if2′ in
+    let len-before = c .before .before .before .before .before .before .before .len-before in
+    let if2 = c .before .before .before .before .if2 in
     rw (c .before .before .code-of .ensures)
     (sym (brace-code _ _ (len-before .ensures) (if2 .left) (ap isScalar (sym (c .before .before .code-of .ensures)) ∙ sym (c .before .is-scalar .ensures) ∙ not-false _ (c .if3 .left))))
 

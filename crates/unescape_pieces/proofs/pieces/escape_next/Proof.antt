@@ -22,20 +22,17 @@ stop-requires c κs = search needs
 
 returns : tie.Need-returns
 returns c =
-    let first-of′ = c .before .before .before .first-of in
-    let first-of = first-of′ in
+    let first-of = c .before .before .before .first-of in
     c .stop .ensures ∙ sym (escape-none _ (sym (first-of .ensures) ∙ c .before .enum-told .given .1))
 
 sub-brace-next : tie.Need-sub-brace-next
 sub-brace-next c =
-    let first-of′ = c .before .before .before .before .first-of in
-    let first-of = first-of′ in
+    let first-of = c .before .before .before .before .first-of in
     some _ _ (sym (first-of .ensures) ∙ c .before .before .b .given .1)
 
 part-brace-next-start : tie.Need-part-brace-next-start
 part-brace-next-start c =
-    let first-of′ = c .before .before .before .before .first-of in
-    let first-of = first-of′ in
+    let first-of = c .before .before .before .before .first-of in
     some _ _ (sym (first-of .ensures) ∙ c .before .before .b .given .1)
 
 part-brace-next-end : tie.Need-part-brace-next-end
@@ -46,10 +43,8 @@ brace-next-requires c κs = search needs
 
 returns-2 : tie.Need-returns-2
 returns-2 c =
-    let first-of′ = c .before .before .before .before .before .before .first-of in
-    let b′ = c .before .before .before .before .b in
-    let first-of = first-of′ in
-    let b = b′ in
+    let first-of = c .before .before .before .before .before .before .first-of in
+    let b = c .before .before .before .before .b in
     rw from at (c .brace-next .ensures) ∙ sym (escape-brace _ _ (sym (first-of .ensures) ∙ b .given .1) (c .before .before .if1 .taken))
 
 simple-of-requires : tie.Need-simple-of-requires
@@ -60,8 +55,7 @@ char-len-requires c κs = search needs
 
 add-t12 : tie.Need-add-t12
 add-t12 c =
-    let args′ = c .before .before .before .before .before .before .before .before .before .args in
-    let args = args′ in
+    let args = c .before .before .before .before .before .before .before .before .before .args in
     omega (arith, c .char-len .ensures, charLen-le (args .s .now))
 
 stop-requires-2 : tie.Need-stop-requires-2
@@ -69,24 +63,18 @@ stop-requires-2 c κs = search needs
 
 returns-3 : tie.Need-returns-3
 returns-3 c =
-    let first-of′ = c .before .before .before .before .before .before .before .before .first-of in
-    let b′ = c .before .before .before .before .before .before .b in
-    let if1′ = c .before .before .before .before .if1 in
-    let simple-of′ = c .before .before .before .simple-of in
-    let first-of = first-of′ in
-    let b = b′ in
-    let if1 = if1′ in
-    let simple-of = simple-of′ in
+    let first-of = c .before .before .before .before .before .before .before .before .first-of in
+    let b = c .before .before .before .before .before .before .b in
+    let if1 = c .before .before .before .before .if1 in
+    let simple-of = c .before .before .before .simple-of in
     c .stop2 .ensures
     ∙ rw (c .before .char-len .ensures)
     (sym (escape-bad _ _ (sym (first-of .ensures) ∙ b .given .1) (if1 .left) (sym (simple-of .ensures) ∙ c .before .before .if2 .taken)))
 
 returns-4 : tie.Need-returns-4
 returns-4 c =
-    let first-of′ = c .before .before .before .before .before .before .first-of in
-    let b′ = c .before .before .before .before .b in
-    let first-of = first-of′ in
-    let b = b′ in
+    let first-of = c .before .before .before .before .before .before .first-of in
+    let b = c .before .before .before .before .b in
     rw (c .before .simple-of .ensures)
     (sym (escape-simple _ _ (sym (first-of .ensures) ∙ b .given .1) (c .before .before .if1 .left) (λ z. c .if2 .left (c .before .simple-of .ensures ∙ z))))
 

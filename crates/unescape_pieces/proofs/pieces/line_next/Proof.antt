@@ -20,8 +20,7 @@ starts-with-requires c κs = search needs
 returns : tie.Need-returns
 unfolding lineNext
 returns c =
-    let line-end′ = c .before .before .before .line-end in
-    let line-end = line-end′ in
+    let line-end = c .before .before .before .line-end in
     rw (← line-end .ensures, sym (c .before .starts-with .ensures) ∙ c .if1 .taken)
 
 returns-2 : tie.Need-returns-2

@@ -20,25 +20,21 @@ returns-2 c = rw (← c .before .before .newline-size .ensures, le-ltb _ _ (c .b
 
 shared-slice-read-if3 : tie.Need-shared-slice-read-if3
 shared-slice-read-if3 c =
-    let args′ = c .before .before .before .before .before .args in
-    let newline-size′ = c .before .before .before .newline-size in
-    let args = args′ in
-    let newline-size = newline-size′ in
+    let args = c .before .before .before .before .before .args in
+    let newline-size = c .before .before .before .newline-size in
     omega (arith, break-le (args .s .now), newline-size .ensures)
 
 returns-3 : tie.Need-returns-3
 unfolding openedBy
 returns-3 c =
-    let if1′ = c .before .before .before .if1 in
-    let if1 = if1′ in
+    let if1 = c .before .before .before .if1 in
     let n = c .before .before .before .before in
     rw (← n .newline-size .ensures, le-ltb _ _ (if1 .left), c .before .before .if2 .left, eq-eqb _ _ (c .if3 .taken))
 
 returns-4 : tie.Need-returns-4
 unfolding openedBy
 returns-4 c =
-    let if1′ = c .before .before .before .if1 in
-    let if1 = if1′ in
+    let if1 = c .before .before .before .if1 in
     let n = c .before .before .before .before in
     rw (← n .newline-size .ensures, le-ltb _ _ (if1 .left), c .before .before .if2 .left, ne-eqb _ _ (c .if3 .left))
 

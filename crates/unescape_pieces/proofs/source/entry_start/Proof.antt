@@ -25,20 +25,17 @@ returns c = sym (entry-none _ (sym (c .before .before .first-of .ensures) ∙ c 
 
 returns-2 : tie.Need-returns-2
 returns-2 c =
-    let first-of′ = c .before .before .before .before .first-of in
-    let first-of = first-of′ in
+    let first-of = c .before .before .before .before .first-of in
     sym (entry-bare _ _ (sym (first-of .ensures) ∙ c .before .before .b .given .1) (c .if1 .taken))
 
 sub-len-before : tie.Need-sub-len-before
 sub-len-before c =
-    let first-of′ = c .before .before .before .before .first-of in
-    let first-of = first-of′ in
+    let first-of = c .before .before .before .before .first-of in
     some _ _ (sym (first-of .ensures) ∙ c .before .before .b .given .1)
 
 part-len-before-start : tie.Need-part-len-before-start
 part-len-before-start c =
-    let first-of′ = c .before .before .before .before .first-of in
-    let first-of = first-of′ in
+    let first-of = c .before .before .before .before .first-of in
     some _ _ (sym (first-of .ensures) ∙ c .before .before .b .given .1)
 
 part-len-before-end : tie.Need-part-len-before-end
@@ -49,24 +46,19 @@ len-before-requires c κs = search needs
 
 add-end : tie.Need-add-end
 add-end c =
-    let args′ = c .before .before .before .before .before .before .before .before .args in
-    let args = args′ in
+    let args = c .before .before .before .before .before .before .before .before .args in
     let s = args .s .now in omega (arith, rw from at (c .len-before .ensures), count-le isLiteral (drop 1 s), length-drop 1 s)
 
 add-if2 : tie.Need-add-if2
 add-if2 c =
-    let args′ = c .before .before .before .before .before .before .before .before .args in
-    let args = args′ in
+    let args = c .before .before .before .before .before .before .before .before .args in
     let s = args .s .now in omega (arith, rw from at (c .len-before .ensures), count-le isLiteral (drop 1 s), length-drop 1 s)
 
 returns-3 : tie.Need-returns-3
 returns-3 c =
-    let first-of′ = c .before .before .before .before .before .before .before .first-of in
-    let b′ = c .before .before .before .before .before .b in
-    let if1′ = c .before .before .before .if1 in
-    let first-of = first-of′ in
-    let b = b′ in
-    let if1 = if1′ in
+    let first-of = c .before .before .before .before .before .before .before .first-of in
+    let b = c .before .before .before .before .before .b in
+    let if1 = c .before .before .before .if1 in
     sym (entry-pieces _ _ (sym (first-of .ensures) ∙ b .given .1) (if1 .left) _ (rw from at (c .before .len-before .ensures)) (c .if2 .taken))
 
 shared-slice-read-if3 : tie.Need-shared-slice-read-if3
@@ -74,26 +66,18 @@ shared-slice-read-if3 c = search needs
 
 returns-4 : tie.Need-returns-4
 returns-4 c =
-    let first-of′ = c .before .before .before .before .before .before .before .before .before .first-of in
-    let b′ = c .before .before .before .before .before .before .before .b in
-    let if1′ = c .before .before .before .before .before .if1 in
-    let len-before′ = c .before .before .before .len-before in
-    let first-of = first-of′ in
-    let b = b′ in
-    let if1 = if1′ in
-    let len-before = len-before′ in
+    let first-of = c .before .before .before .before .before .before .before .before .before .first-of in
+    let b = c .before .before .before .before .before .before .before .b in
+    let if1 = c .before .before .before .before .before .if1 in
+    let len-before = c .before .before .before .len-before in
     sym (entry-last _ _ (sym (first-of .ensures) ∙ b .given .1) (if1 .left) _ (rw from at (len-before .ensures)) (c .before .before .if2 .left) ∙ rw (eq-eqb _ _ (c .if3 .taken)))
 
 returns-5 : tie.Need-returns-5
 returns-5 c =
-    let first-of′ = c .before .before .before .before .before .before .before .before .before .first-of in
-    let b′ = c .before .before .before .before .before .before .before .b in
-    let if1′ = c .before .before .before .before .before .if1 in
-    let len-before′ = c .before .before .before .len-before in
-    let first-of = first-of′ in
-    let b = b′ in
-    let if1 = if1′ in
-    let len-before = len-before′ in
+    let first-of = c .before .before .before .before .before .before .before .before .before .first-of in
+    let b = c .before .before .before .before .before .before .before .b in
+    let if1 = c .before .before .before .before .before .if1 in
+    let len-before = c .before .before .before .len-before in
     sym (entry-last _ _ (sym (first-of .ensures) ∙ b .given .1) (if1 .left) _ (rw from at (len-before .ensures)) (c .before .before .if2 .left) ∙ rw (ne-eqb _ _ (c .if3 .left)))
 
 pub entry-start-spec : {M : Type 1} → statement M

@@ -25,8 +25,7 @@ is-utf8-requires c κs = search needs
 returns-3 : tie.Need-returns-3
 unfolding sound
 returns-3 c =
-    let if1′ = c .before .before .before .if1 in
-    let if1 = if1′ in
+    let if1 = c .before .before .before .if1 in
     rw (le-leb _ _ (if1 .left), le-leb _ _ (c .before .before .if2 .left)) (c .is-utf8 .ensures)
 
 pub is-sound-spec : {M : Type 1} → statement M

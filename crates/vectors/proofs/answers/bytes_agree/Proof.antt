@@ -25,8 +25,7 @@ shared-slice-read-if2 c = search needs
 
 cast-if2 : tie.Need-cast-if2 Inv-loop μ-loop
 cast-if2 c =
-    let loop-here′ = c .before .before .before .before .loop in
-    let loop-here = loop-here′ in
+    let loop-here = c .before .before .before .before .loop in
     omega (arith, c .shared-slice-known3 .given (loop-here .i))
 
 returns-2 : tie.Need-returns-2 Inv-loop μ-loop

@@ -85,8 +85,7 @@ loop-less c = search needs
 
 loop-again : tie.Need-loop-again Inv-loop μ-loop
 loop-again c =
-    let loop-here′ = c .before .before .before .before .before .before .before .before .before .before .before .loop in
-    let loop-here = loop-here′ in
+    let loop-here = c .before .before .before .before .before .before .before .before .before .before .before .loop in
     let h = loop-here .inv .1 in
     (omega arith, rw length-set h)
 

@@ -45,10 +45,8 @@ up-requires c κs = search needs
 
 slice-aggregate-check-line : tie.Need-slice-aggregate-check-line Inv-loop μ-loop
 slice-aggregate-check-line c =
-    let args′ = c .before .before .before .before .before .before .before .args in
-    let loop-here′ = c .before .before .before .before .before .loop in
-    let args = args′ in
-    let loop-here = loop-here′ in
+    let args = c .before .before .before .before .before .before .before .args in
+    let loop-here = c .before .before .before .before .before .loop in
     sym (length-take-le _ _ (rw from (rw length-drop (line-le (args .s .now) (loop-here .at) (c .before .before .line-end .ensures)))))
 
 check-line-requires : tie.Need-check-line-requires Inv-loop μ-loop
@@ -59,22 +57,16 @@ counted-requires c κs = search needs
 
 add-at : tie.Need-add-at Inv-loop μ-loop
 add-at c =
-    let args′ = c .before .before .before .before .before .before .before .before .before .args in
-    let loop-here′ = c .before .before .before .before .before .before .before .loop in
-    let line-end′ = c .before .before .before .before .line-end in
-    let args = args′ in
-    let loop-here = loop-here′ in
-    let line-end = line-end′ in
+    let args = c .before .before .before .before .before .before .before .before .before .args in
+    let loop-here = c .before .before .before .before .before .before .before .loop in
+    let line-end = c .before .before .before .before .line-end in
     omega (arith, line-le (args .s .now) (loop-here .at) (line-end .ensures))
 
 add-at-2 : tie.Need-add-at-2 Inv-loop μ-loop
 add-at-2 c =
-    let args′ = c .before .before .before .before .before .before .before .before .before .args in
-    let loop-here′ = c .before .before .before .before .before .before .before .loop in
-    let line-end′ = c .before .before .before .before .line-end in
-    let args = args′ in
-    let loop-here = loop-here′ in
-    let line-end = line-end′ in
+    let args = c .before .before .before .before .before .before .before .before .before .args in
+    let loop-here = c .before .before .before .before .before .before .before .loop in
+    let line-end = c .before .before .before .before .line-end in
     omega (arith, line-le (args .s .now) (loop-here .at) (line-end .ensures))
 
 loop-less : tie.Need-loop-less Inv-loop μ-loop
@@ -82,12 +74,9 @@ loop-less c = search needs
 
 loop-again : tie.Need-loop-again Inv-loop μ-loop
 loop-again c =
-    let args′ = c .before .before .before .before .before .before .before .before .before .args in
-    let loop-here′ = c .before .before .before .before .before .before .before .loop in
-    let line-end′ = c .before .before .before .before .line-end in
-    let args = args′ in
-    let loop-here = loop-here′ in
-    let line-end = line-end′ in
+    let args = c .before .before .before .before .before .before .before .before .before .args in
+    let loop-here = c .before .before .before .before .before .before .before .loop in
+    let line-end = c .before .before .before .before .line-end in
     omega (arith, line-le (args .s .now) (loop-here .at) (line-end .ensures))
 
 returns : tie.Need-returns Inv-loop μ-loop

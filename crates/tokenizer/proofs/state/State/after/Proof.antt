@@ -22,10 +22,8 @@ depth-after-requires c κs = search needs
 returns : tie.Need-returns
 unfolding afterPlan
 returns c =
-    let indents-after′ = c .before .before .before .before .before .before .before .indents-after in
-    let held-after′ = c .before .before .before .before .before .held-after in
-    let indents-after = indents-after′ in
-    let held-after = held-after′ in
+    let indents-after = c .before .before .before .before .before .before .before .indents-after in
+    let held-after = c .before .before .before .before .before .held-after in
     rw (indents-after .ensures, held-after .ensures, c .depth-after .ensures)
 
 pub after-spec : {M : Type 1} → statement M

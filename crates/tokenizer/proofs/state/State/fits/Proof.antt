@@ -58,20 +58,15 @@ loop-less c = search needs
 
 loop-again : tie.Need-loop-again Inv-loop μ-loop
 loop-again c =
-    let loop-here′ = c .before .before .before .loop in
-    let loop-here = loop-here′ in
+    let loop-here = c .before .before .before .loop in
     (omega arith, open-more _ _ _ (loop-here .inv .1) (c .part-fits .ensures))
 
 returns-6 : tie.Need-returns-6 Inv-loop μ-loop
 returns-6 c =
-    let args′ = c .before .before .before .before .before .before .before .before .args in
-    let if1′ = c .before .before .before .before .before .before .before .if1 in
-    let held-fits′ = c .before .before .before .before .held-fits in
-    let if4′ = c .before .before .before .if4 in
-    let args = args′ in
-    let if1 = if1′ in
-    let held-fits = held-fits′ in
-    let if4 = if4′ in
+    let args = c .before .before .before .before .before .before .before .before .args in
+    let if1 = c .before .before .before .before .before .before .before .if1 in
+    let held-fits = c .before .before .before .before .held-fits in
+    let if4 = c .before .before .before .if4 in
     let l = c .before in
     let s = args .t1 in
     let n = args .n in

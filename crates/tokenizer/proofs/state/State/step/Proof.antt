@@ -72,8 +72,7 @@ else c = c .before .before .before .before .before .before .before
 
 planned-requires : tie.Need-planned-requires
 planned-requires c κs =
-    let indent-at′ = c .before .before .before .before .indent-at in
-    let indent-at = indent-at′ in
+    let indent-at = c .before .before .before .before .indent-at in
     let f = fitness _ _ (fits (else c)) in
     let i = rw from at (indent-at .ensures .0) in
     (f .place, (rw (inner c) (inner-fit _ _ _ (f .opens)), rw i (indent-fit _ _ f)))
@@ -83,8 +82,7 @@ plan : (c : tie.After-planned) → let i = c .before .before .before .before .be
     c .planned .result ≡ planWith (start (c .before) .args .doc .now) (start (c .before) .args .t1) (i .part) (i .size)
 unfolding planWith
 plan c =
-    let indent-at′ = c .before .before .before .before .before .indent-at in
-    let indent-at = indent-at′ in
+    let indent-at = c .before .before .before .before .before .indent-at in
     let a = start (c .before) .args in
     let i = indent-at .result in
     c .planned .ensures
