@@ -167,11 +167,12 @@ enum conl_text {
  * Returns true, with the answer in the first CONL_ANSWER_WORDS words of `answer`. A text that is
  * not a part of the document is written to the front of `out`, of which every other byte is as it
  * was; it is never longer than the row's text, so that so long a buffer is never refused by 14.
- * Refusals are, in this order: 12, on line 0; 13, which no row of a reading from the fresh state on
- * meets; 8 to 11; 14. All but 12 are on the token's line.
+ * Refusals are, in this order: 12, on line 0, whatever `row` is; 13, which no row of a reading from
+ * the fresh state on meets; 8 to 11; 14. All but 12 are on the token's line.
  *
- * Returns false, with nothing written, where `row` has fewer than six words, its number is not an
- * enum conl_kind, or `answer` has fewer than CONL_ANSWER_WORDS words.
+ * Returns false, with nothing written, where `answer` has fewer than CONL_ANSWER_WORDS words, or,
+ * where the document is not too long, `row` has fewer than six words or its number is not an enum
+ * conl_kind.
  */
 bool conl_unescape(const uint8_t *doc, size_t doc_len, const size_t *row, size_t row_len,
                    uint8_t *out, size_t out_len, size_t *answer, size_t answer_len);

@@ -41,8 +41,8 @@ pub fn look_up(document: &[u8], wanted: &[u8]) -> Found {
         )
     };
     assert!(answered, "an answer of five words is written");
-    let [sort, number, line, start, end] = answer;
-    match sort {
+    let [kind, number, line, start, end] = answer;
+    match kind {
         0 => Found::Nothing,
         1 => Found::At {
             line,
