@@ -49,7 +49,7 @@ module _ (s : ℕ) (t : List ℕ) (o : Top s) where
   closes m e depth (a ∷ inner) w = at-top m e depth (a ∷ inner)
 
   -- none is
-  begins : (m : Marks) → m .indent ≡ true → m .value ≡ false
+  pub begins : (m : Marks) → m .indent ≡ true → m .value ≡ false
       → planAt m 0 [] [] (s ∷ t) 0 ≡ planEntry (record { indent = false; value = false; multiline = false }) 0 s (s ∷ t)
   unfolding planIndented relationOf
   begins m e v = at-top m e 0 [] ∙ ap (λ v. planEntry (record { indent = false; value = v; multiline = false }) 0 s (s ∷ t)) v
