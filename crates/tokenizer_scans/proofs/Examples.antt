@@ -51,6 +51,11 @@ quoted-key : textEnd (byte "=") (ascii "\"a=b\" = c") ≡ 6
 unfolding rules
 quoted-key = refl
 
+-- `a ; b`: a key ends at `;`
+commented-key : textEnd (byte "=") (ascii "a ; b") ≡ 2
+unfolding rules
+commented-key = refl
+
 -- `a ; b`, `a` CR: a value ends at `;` and before a break
 plain-value : textEnd (byte ";") (ascii "a ; b") ≡ 2
 unfolding rules
