@@ -104,8 +104,8 @@ pub extern "C" fn conl_parse(doc: &[u8], state: &mut [usize], rows: &mut [usize]
 
 // Unescapes the token of a row, and writes the answer at the front of its words: 0, 0, 0, start and end of a plain
 // part; 1, 0, 0, 0 and the length of the text that out now begins with; 2, a refusal's number, its line, start and end
-// of the part that it shows. False, with nothing written, where the row has fewer than six words, its number is not a
-// kind's (1 to 10), or there are fewer than five words for the answer.
+// of the part that it shows. False, with nothing written, where there are fewer than five words for the answer, or,
+// within the limit, the row has fewer than six words or its number is not a kind's, 1 to 10.
 #[no_mangle]
 pub extern "C" fn conl_unescape(
     doc: &[u8],
