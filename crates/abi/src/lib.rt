@@ -7,9 +7,9 @@ ghost use lib.ListN.{length};
 ghost use Rattle.text.specs.Utf8.{utf8};
 ghost use Rattle.text.specs.Trimming.{dropped, trimmed};
 ghost use Rattle.tokenizer_words.specs.Words.{tokenizerSize, freshIn};
-ghost use Rattle.tokenizer_words.specs.Rows.{batchOf};
+ghost use Rattle.batches.specs.Batch.{batchOf};
 ghost use Rattle.parser_words.specs.ParserWords.{parserSize, freshParserIn};
-ghost use Rattle.parser_words.specs.Parsing.{parseBatchOf};
+ghost use Rattle.batches.specs.Batch.{parseBatchOf};
 ghost use Rattle.answer_words.specs.Texts.{textOf};
 ghost use Rattle.answer_words.specs.Given.{givenTextOf};
 ghost use Rattle.answer_words.specs.Found.{foundIn};
@@ -78,7 +78,7 @@ pub extern "C" fn conl_tokenize(doc: &[u8], state: &mut [usize], rows: &mut [usi
     ensures { λ r. ⌜ now (state .exit) ≡ batchOf (now (doc .entry)) (now (state .entry)) (now (rows .entry)) .words ⌝ }
     ensures { λ r. ⌜ now (rows .exit) ≡ batchOf (now (doc .entry)) (now (state .entry)) (now (rows .entry)) .rows ⌝ }
 {
-    step_words::tokenize(doc, state, rows)
+    batches::tokenize(doc, state, rows)
 }
 
 // Writes the parser's fresh state at the front of the words: true; or false, with state unchanged, where there are
@@ -99,7 +99,7 @@ pub extern "C" fn conl_parse(doc: &[u8], state: &mut [usize], rows: &mut [usize]
     ensures { λ r. ⌜ now (state .exit) ≡ parseBatchOf (now (doc .entry)) (now (state .entry)) (now (rows .entry)) .words ⌝ }
     ensures { λ r. ⌜ now (rows .exit) ≡ parseBatchOf (now (doc .entry)) (now (state .entry)) (now (rows .entry)) .rows ⌝ }
 {
-    step_words::parse(doc, state, rows)
+    batches::parse(doc, state, rows)
 }
 
 // Unescapes the token of a row, and writes the answer at the front of its words: 0, 0, 0, start and end of a plain

@@ -1,8 +1,8 @@
 // The listing's rows, and the listing.
 use crate::writing::put_number;
 use crate::writing::put_text;
+use batches::next;
 use parser_words::fresh_parser;
-use step_words::next;
 ghost use mathlib.Core.Path.{_≡_};
 ghost use Prim.Native.Nat.{_+_, _≤_, _<_, _^_};
 ghost use lib.ListN.{length};

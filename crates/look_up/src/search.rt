@@ -1,6 +1,6 @@
 // The look-up: one pass over the parser's answers, a row each, its state in words of its own.
+use batches::next;
 use parser_words::fresh_parser;
-use step_words::next;
 use text::Part;
 use tokenizer::State;
 ghost use mathlib.Core.Path.{_≡_};

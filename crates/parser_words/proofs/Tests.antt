@@ -5,7 +5,7 @@ use mathlib.Core.List.{List, _∷_}
 use mathlib.Core.Bool.{true}
 use native.Mathlib.Omega.{arith}
 use lib.ListN.{length, getD, List·getD-eq-default}
-use Rattle.tokenizer_words.proofs.Batches.{enough}
+use Rattle.tokenizer_words.proofs.Loading.{enough}
 use Rattle.parser_words.specs.ParserWords.{parserReadable}
 
 -- n is none of the numbers from 1 to k

@@ -1,3 +1,3 @@
 pub mod ParserWords
-pub mod Parsing
+pub mod Stops
 pub mod Claims

@@ -28,7 +28,7 @@ use Rattle.parser.proofs.Steps.{goes-on}
 use Rattle.tokenizer_words.specs.Words.{wordsOf, stateIn}
 use Rattle.tokenizer_words.proofs.Standing.{slots-64}
 use Rattle.parser_words.specs.ParserWords.{sortWords, keptWords, middleWords, parserWords, parserIn}
-use Rattle.parser_words.specs.Parsing.{isStop}
+use Rattle.parser_words.specs.Stops.{isStop}
 use Rattle.step_words.specs.Fronts.{committed}
 use Rattle.step_words.specs.Outcomes.{outcomeBy, outcomeIn}
 use Rattle.step_words.specs.Stepping.{cameIn, sortAt, judgedIn, outcomeFor, stopsAt}

@@ -32,11 +32,11 @@ use Rattle.parser.specs.declared.state.Step.{Step}
 use Rattle.parser.proofs.Steps.{over, ended, goes-on}
 use Rattle.tokenizer_words.specs.Words.{wordsOf, stateIn}
 use Rattle.parser_words.specs.ParserWords.{parserWords, parserIn, freshParserIn}
-use Rattle.parser_words.specs.Parsing.{isStop}
+use Rattle.parser_words.specs.Stops.{isStop}
 use Rattle.step_words.specs.Fronts.{committed}
 use Rattle.step_words.specs.Outcomes.{outcomeBy}
-use Rattle.step_words.specs.Stepping.{refusedIn, keptNumber, cameIn, judgedIn, outcomeFor, leftIn, stopsAt, Gone, stays, goneBy, stepIn, nextOf}
-use Rattle.step_words.specs.Claims.{Whole, Reading, FreshReads, NextSteps}
+use Rattle.step_words.specs.Stepping.{refusedIn, keptNumber, cameIn, judgedIn, outcomeFor, leftIn, stopsAt, Gone, stays, goneBy, stepIn}
+use Rattle.step_words.specs.Claims.{Whole, Reading, FreshReads, TokenizerSteps, ParserSteps}
 use Rattle.step_words.specs.declared.outcome.Outcome.{Outcome}
 use Rattle.step_words.specs.declared.step.Layer.the-variants.{Tokenizer as Tokens, Parser as Parses}
 use Rattle.step_words.proofs.Fronts.{step-committed, end-number}
@@ -56,19 +56,17 @@ module _ (m : Advanced) (w : List ℕ) where
   unfolding goneBy judgedIn outcomeBy stopsAt leftIn
   other-came e f = rw e (rw (e, f))
 
-module _ (d w : List ℕ) (l : length d ≤ 16777216) (h : 137 ≤ length w) (f : fit (length d) (stateIn w) ≡ true) where
-  pub token-step : let t = tokenStep d (stateIn w) in
-      stepIn Tokens d w ≡ cond (isEnd (t .answer)) (stays 0 w) (record { said = saidBy (cameValues (t .answer)); words = wordsOf (t .state) ++ drop 137 w })
-  unfolding stepIn refusedIn cameIn keptNumber
-  token-step =
-      let t = tokenStep d (stateIn w) in
-      let m = aheadOf d (stateIn w) in
-      let s : m .said ≡ saidBy (cameValues (t .answer)) = step-said d (stateIn w) l f in
-      let n : eqb (m .said .number) 0 ≡ isEnd (t .answer) = ap (λ (x : Said). eqb (x .number) 0) s ∙ end-number (t .answer) in
-      let k : m .said .number ≤ 259 = rw s (step-number d (stateIn w) l f) in
-      by-bool (isEnd (t .answer))
-      (λ e. rw e (end-came m w (n ∙ e)))
-      (λ e. rw e (other-came m w (n ∙ e) (ne-eqb (m .said .number) 271 (λ q. omega arith)) ∙ (λ j. record { said = s j; words = step-committed d w l h f j })))
+pub tokenizer-steps : TokenizerSteps
+unfolding stepIn refusedIn cameIn keptNumber
+tokenizer-steps d w l h f =
+    let t = tokenStep d (stateIn w) in
+    let m = aheadOf d (stateIn w) in
+    let s : m .said ≡ saidBy (cameValues (t .answer)) = step-said d (stateIn w) l f in
+    let n : eqb (m .said .number) 0 ≡ isEnd (t .answer) = ap (λ (x : Said). eqb (x .number) 0) s ∙ end-number (t .answer) in
+    let k : m .said .number ≤ 259 = rw s (step-number d (stateIn w) l f) in
+    by-bool (isEnd (t .answer))
+    (λ e. rw e (end-came m w (n ∙ e)))
+    (λ e. rw e (other-came m w (n ∙ e) (ne-eqb (m .said .number) 271 (λ q. omega arith)) ∙ (λ j. record { said = s j; words = step-committed d w l h f j })))
 
 -- the parser's
 module _ (d w : List ℕ) (l : length d ≤ 16777216) (h : 213 ≤ length w) (e : w ≡ parserWords (parserIn w) ++ drop 213 w)
@@ -103,10 +101,8 @@ module _ (d w : List ℕ) (l : length d ≤ 16777216) (h : 213 ≤ length w) (e 
       (λ r. refused Parses d w r ∙ at-end r)
       (λ r. goes Parses d w r ∙ parser-goes r)
 
-pub parser-step-of : (d : List ℕ) (s : State) (r : List ℕ) → length d ≤ 16777216 → Whole d s
-    → let t = stepOf d s in let w = parserWords s ++ r in
-    stepIn Parses d w ≡ cond (isStop (t .answer)) (stays (valuesOf (t .answer) .number) w) (record { said = saidBy (valuesOf (t .answer)); words = parserWords (t .state) ++ r })
-parser-step-of d s r l p =
+pub parser-steps : ParserSteps
+parser-steps d s r l p =
     let w = parserWords s ++ r in
     let e = stood-words s (p .slots) (p .sections) r w refl in
     let f : fit (length d) (stateIn w) ≡ true = rw (stood-tokenizer s (p .slots) (p .sections) r w refl) (p .fits) in
@@ -143,29 +139,15 @@ module _ (d : List ℕ) (s : State) where
         let i = innermostOf (s .sections) (s .count) in
         ruled-stops (rulingOf (s .awaited) i (fullOf (s .count)) c) _ (ruling-goes-on (s .awaited) i (fullOf (s .count)) c (fair-came (s .kept))) e
 
-    step-stops : isStop (stepOf d s .answer) ≡ true → Stopped s (stepOf d s)
+    pub step-stops : isStop (stepOf d s .answer) ≡ true → Stopped s (stepOf d s)
     unfolding valuesOf
     step-stops e =
         by-bool (s .refused)
         (λ r. subst (Stopped s) (sym (ended d s l f r)) (refl, refl))
         (λ r. let q = goes-on d s l f r in subst (Stopped s) (sym q) (kept-stops (rw q at e)))
 
--- `next` is the parser's step
-next-of : (d : List ℕ) (s : State) (r : List ℕ) → Whole d s
-    → nextOf d (parserWords s ++ r) ≡ record { said = saidBy (valuesOf (stepOf d s .answer)); words = parserWords (stepOf d s .state) ++ r }
-unfolding nextOf valuesOf
-next-of d s r h =
-    by-bool (ltb 16777216 (length d))
-    (λ e. rw (e, over d s (ltb-true 16777216 (length d) e)))
-    (λ e.
-    let l = ltb-false 16777216 (length d) e in
-    let p = parser-step-of d s r l h in
-    rw e (by-bool (isStop (stepOf d s .answer))
-    (λ k. rw k at p ∙ (λ j. record { said = sym (step-stops d s l (h .fits) k .0) j; words = parserWords (sym (step-stops d s l (h .fits) k .1) j) ++ r }))
-    (λ k. rw k at p)))
-
 -- the words of a state are those of a reading
-reads : (d : List ℕ) (s : State) (w : List ℕ) → w ≡ parserWords s → Whole d s → (parserIn w ≡ s) × Reading d w
+pub reads : (d : List ℕ) (s : State) (w : List ℕ) → w ≡ parserWords s → Whole d s → (parserIn w ≡ s) × Reading d w
 reads d s w e h =
     let b = stood-state s (h .slots) (h .sections) [] w (e ∙ sym (append-nil (parserWords s))) in
     (b, record { words = rw b e; whole = rw b h })
@@ -176,11 +158,3 @@ fresh-reads d w h =
     let z : drop 213 w ≡ [] = subst (λ n. drop n w ≡ []) h (drop-length w) in
     let e : freshParserIn w ≡ parserWords fresh = rw (le-leb 213 (length w) (omega (arith, h)), z, append-nil) in
     reads d fresh (freshParserIn w) e (fresh-whole d)
-
-pub next-steps : NextSteps
-next-steps d w h =
-    let s = parserIn w in
-    let e : nextOf d w ≡ record { said = saidBy (valuesOf (stepOf d s .answer)); words = parserWords (stepOf d s .state) } =
-    ap (nextOf d) (h .words) ∙ rw (append-nil (parserWords s), append-nil (parserWords (stepOf d s .state))) at (next-of d s [] (h .whole)) in
-    let r = reads d (stepOf d s .state) (nextOf d w .words) (ap (λ (g : Gone). g .words) e) (step-whole d s (h .whole)) in
-    record { said = ap (λ (g : Gone). g .said) e; state = r .0; reading = r .1 }

@@ -6,9 +6,5 @@ pub mod Putting
 pub mod Coming
 pub mod Going
 pub mod Branches
-pub mod Taking
-pub mod Single
 pub mod Whole
 pub mod Laws
-pub mod Following
-pub mod Batching

@@ -16,7 +16,7 @@ use Rattle.parser_rules.specs.declared.ruling.Innermost.{Innermost}
 use Rattle.parser_rules.specs.declared.ruling.Innermost.the-variants.{Missing, Of}
 use Rattle.parser_rules.specs.declared.ruling.Ruling.{Ruling}
 use Rattle.parser_rules.specs.declared.ruling.Ruling.the-variants.{Says, End, Unfit}
-use Rattle.parser_words.specs.Parsing.{isStop}
+use Rattle.parser_words.specs.Stops.{isStop}
 
 -- what it says, if anything, does not stop
 abbrev pub GoesOn : Ruling → Type 0

@@ -1,16 +1,23 @@
--- The law that ties the step in words to the parser's step: what the walks inside the library go by.
-use Prim.Native.Nat.{ℕ}
+-- Claims: what the step in words is, of the words of a fit state: the tokenizer's step, or the parser's. proofs/Laws proves them.
+use Prim.Native.Nat.{ℕ, _≤_}
 use mathlib.Core.Path.{_≡_}
-use mathlib.Core.List.{List}
-use mathlib.Core.Bool.{true}
-use lib.ListN.{length}
+use mathlib.Core.List.{List, _++_}
+use mathlib.Core.Bool.{true, cond}
+use lib.ListN.{length, drop}
+use Rattle.text.specs.Numbers.{maxDocument}
+use Rattle.tokenizer.specs.Token.{valuesOf as cameValues}
 use Rattle.tokenizer.specs.Step.{fit}
+use Rattle.tokenizer.specs.Step.{stepOf as tokenStep}
 use Rattle.tokenizer.specs.Front.{saidBy}
+use Rattle.tokenizer.specs.Lists.{isEnd}
 use Rattle.parser_rules.specs.Ruling.{valuesOf}
 use Rattle.parser.specs.Step.{stepOf, fresh}
 use Rattle.parser.specs.declared.state.State.{State}
-use Rattle.parser_words.specs.ParserWords.{parserWords, parserIn, freshParserIn}
-use Rattle.step_words.specs.Stepping.{Gone, nextOf}
+use Rattle.tokenizer_words.specs.Words.{tokenizerSize, wordsOf, stateIn}
+use Rattle.parser_words.specs.ParserWords.{parserSize, parserWords, parserIn, freshParserIn}
+use Rattle.parser_words.specs.Stops.{isStop}
+use Rattle.step_words.specs.Stepping.{stays, stepIn}
+use Rattle.step_words.specs.declared.step.Layer.the-variants.{Tokenizer, Parser}
 
 -- a state with its 64 slots and 65 sections (the code's arrays have no other lengths) that is fit for the document
 pub record Whole (d : List ℕ) (s : State) : Type 0 where
@@ -25,14 +32,18 @@ pub record Reading (d w : List ℕ) : Type 0 where
 
 -- a walk begins with the fresh words
 abbrev pub FreshReads : Type 0
-FreshReads = (d w : List ℕ) → length w ≡ 213 → (parserIn (freshParserIn w) ≡ fresh) × Reading d (freshParserIn w)
+FreshReads = (d w : List ℕ) → length w ≡ parserSize → (parserIn (freshParserIn w) ≡ fresh) × Reading d (freshParserIn w)
 
--- what is said is what the parser's step of the state in the words says, and the words after it are those of the state after it
-pub record Steps (d w : List ℕ) (g : Gone) : Type 0 where
-  pub said : g .said ≡ saidBy (valuesOf (stepOf d (parserIn w) .answer))
-  pub state : parserIn (g .words) ≡ stepOf d (parserIn w) .state
-  pub reading : Reading d (g .words)
+-- the tokenizer's: End changes nothing, and anything else is said, with the state after it in the words
+abbrev pub TokenizerSteps : Type 0
+TokenizerSteps =
+    (d w : List ℕ) → length d ≤ maxDocument → tokenizerSize ≤ length w → fit (length d) (stateIn w) ≡ true → let t = tokenStep d (stateIn w) in
+    stepIn Tokenizer d w
+    ≡ cond (isEnd (t .answer)) (stays 0 w) (record { said = saidBy (cameValues (t .answer)); words = wordsOf (t .state) ++ drop tokenizerSize w })
 
--- of the words of a reading, `next` is the parser's step
-abbrev pub NextSteps : Type 0
-NextSteps = (d w : List ℕ) → Reading d w → Steps d w (nextOf d w)
+-- the parser's: the same of End and 15, r being the words behind
+abbrev pub ParserSteps : Type 0
+ParserSteps =
+    (d : List ℕ) (s : State) (r : List ℕ) → length d ≤ maxDocument → Whole d s → let t = stepOf d s in let w = parserWords s ++ r in
+    stepIn Parser d w
+    ≡ cond (isStop (t .answer)) (stays (valuesOf (t .answer) .number) w) (record { said = saidBy (valuesOf (t .answer)); words = parserWords (t .state) ++ r })

@@ -4,8 +4,8 @@ use Prim.Native.Nat.{ℕ, zero, suc, _+_}
 use mathlib.Core.List.{List}
 use mathlib.Core.Bool.{Bool, false, cond, _||_}
 use lib.Dec.{eqb, leb, ltb}
-use lib.ListN.{length, getD}
-use Rattle.tokenizer.specs.Token.{Values, bare}
+use lib.ListN.{getD}
+use Rattle.tokenizer.specs.Token.{bare}
 use Rattle.tokenizer.specs.Step.{noPart}
 use Rattle.tokenizer.specs.Front.{frontOf, saidBy, aheadOf}
 use Rattle.tokenizer.specs.declared.front.Said.{Said}
@@ -15,7 +15,7 @@ use Rattle.parser_rules.specs.Judging.{judgedBy}
 use Rattle.parser_rules.specs.declared.judging.Judged.{Judged}
 use Rattle.parser_rules.specs.declared.judging.Judged.the-variants.{GivesOn, End}
 use Rattle.tokenizer_words.specs.Words.{pastedIn, stateIn}
-use Rattle.tokenizer_words.specs.Rows.{rowBy, Steps, taken}
+use Rattle.tokenizer_words.specs.Rows.{rowBy}
 use Rattle.step_words.specs.Fronts.{committed}
 use Rattle.step_words.specs.Outcomes.{nothing, outcomeBy, outcomeIn}
 use Rattle.step_words.specs.declared.outcome.Outcome.{Outcome}
@@ -89,22 +89,3 @@ stepIn layer d w = let m = cameIn layer d w in cond (refusedIn layer w) (stays 0
 -- the rows with its row from a place on; unchanged where it stops
 unfoldable pub rowIn : Said → ℕ → List ℕ → List ℕ
 rowIn s n rows = cond (stopsAt (s .number)) rows (pastedIn (rowBy s) n rows)
-
-abbrev pub valuesBy : Said → Values
-valuesBy s = record { number = s .number; line = s .line; start = s .start; end = s .end; from = s .from; to = s .to }
-
--- the steps, from words to words
-abbrev pub stepping : Layer → List ℕ → Steps (List ℕ)
-stepping layer d = record {
-  says = λ w. valuesBy (stepIn layer d w .said);
-  next = λ w. stepIn layer d w .words;
-  stops = λ w. stopsAt (stepIn layer d w .said .number);
-}
-
--- the number that stops a batch of at most n steps; 1 where it has no room for it
-unfoldable pub lastOf : {S : Type 0} → Steps S → ℕ → S → ℕ
-lastOf m n s = let t = taken m n s in cond (ltb (length (t .answers)) n) (m .says (t .state) .number) 1
-
--- the parser's step for the walks inside the library: 12, then 15 where what this step uses is unfit, then the step
-unfoldable pub nextOf : List ℕ → List ℕ → Gone
-nextOf d w = cond (ltb 16777216 (length d)) (stays 268 w) (stepIn Parser d w)

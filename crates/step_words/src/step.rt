@@ -32,7 +32,7 @@ ghost use Rattle.step_words.specs.Stepping.{
 };
 
 // Whose step it is: the tokenizer's, of the first 137 words, or the parser's.
-pub(crate) enum Layer {
+pub enum Layer {
     Tokenizer,
     Parser,
 }
@@ -128,7 +128,7 @@ fn judged(layer: Layer, number: usize, w: &[usize; 213]) -> Judged
 }
 
 // End and 15 stop: nothing is written.
-pub(crate) fn stops(number: usize) -> bool
+pub fn stops(number: usize) -> bool
     ensures { λ r. ⌜ r ≡ stopsAt number ⌝ }
 {
     (number == 0) | (number == 271)
@@ -146,7 +146,7 @@ fn leave(layer: Layer, o: Outcome, count: usize, w: &mut [usize; 213])
 }
 
 // One step: its number, with its row written from `at` on; or, with nothing written, 0 for End or 271 for 15.
-pub(crate) fn step_in(
+pub fn step_in(
     doc: &[u8],
     layer: Layer,
     w: &mut [usize; 213],

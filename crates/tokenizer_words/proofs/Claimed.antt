@@ -17,7 +17,7 @@ use Rattle.tokenizer_words.specs.Words.{flag, heldWords, partWords, fron
 use Rattle.tokenizer_words.specs.Rows.{rowOf, rowsOf}
 use Rattle.tokenizer_words.specs.Claims.{Slots, StatesBack, StoredBack, AnswerRows, AnswerLists, Layout}
 use Rattle.tokenizer_words.proofs.Slots.{held-words, words-137}
-use Rattle.tokenizer_words.proofs.Batches.{loaded-137, stored-137}
+use Rattle.tokenizer_words.proofs.Loading.{loaded-137, stored-137}
 use Rattle.tokenizer_words.proofs.Standing.{state-back}
 
 held-tells : (h : Held) → leb (getD (heldWords h) 0 0) 1 ≡ true

@@ -2,8 +2,6 @@
 mod rows;
 mod words;
 
-pub use rows::TOO_LONG;
-pub use rows::UNFIT;
 pub use rows::bare_row;
 pub use rows::said_row;
 pub use rows::token_row;

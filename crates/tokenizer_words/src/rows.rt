@@ -6,11 +6,6 @@ ghost use mathlib.Core.Path.{_≡_};
 ghost use Rattle.tokenizer.specs.Token.{bare, withText, tokenValues};
 ghost use Rattle.tokenizer_words.specs.Rows.{rowOf, rowBy};
 
-// The refusals before the first step: 2^63, which is above any count of rows, and 12 or 15.
-pub const TOO_LONG: usize = 0x8000_0000_0000_000C;
-
-pub const UNFIT: usize = 0x8000_0000_0000_000F;
-
 // The row of a number and a line, with no text.
 pub fn bare_row(number: usize, line: usize) -> [usize; 7]
     ensures { λ r. ⌜ r ≡ rowOf (bare number line) ⌝ }

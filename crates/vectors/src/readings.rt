@@ -23,7 +23,7 @@ pub fn tokens_agree(line: &[u8], s: &[u8], after: usize) -> bool {
     let mut words = [0usize; 137];
     let mut rows = [0usize; 3591];
     tokenizer_words::fresh(&mut words);
-    let n = step_words::tokenize(s, &mut words, &mut rows);
+    let n = batches::tokenize(s, &mut words, &mut rows);
     rows_agree(line, after, &rows, n)
 }
 
@@ -31,6 +31,6 @@ pub fn parsing_agrees(line: &[u8], s: &[u8], after: usize) -> bool {
     let mut words = [0usize; 213];
     let mut rows = [0usize; 3591];
     parser_words::fresh_parser(&mut words);
-    let n = step_words::parse(s, &mut words, &mut rows);
+    let n = batches::parse(s, &mut words, &mut rows);
     rows_agree(line, after, &rows, n)
 }

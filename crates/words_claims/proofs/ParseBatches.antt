@@ -15,10 +15,11 @@ use Rattle.parser.specs.Lists.{Parses, ends, says, parse}
 use Rattle.parser.specs.declared.state.State.{State}
 use Rattle.parser_claims.specs.Claims.{Fits, All}
 use Rattle.parser_claims.proofs.Claimed as claimed
-use Rattle.tokenizer_words.specs.Rows.{Taken, taken, takenBatch}
-use Rattle.tokenizer_words.proofs.Batches.{over, took}
+use Rattle.batches.specs.Batch.{Taken, taken, takenBatch}
+use Rattle.batches.proofs.Branching.{over, took}
 use Rattle.parser_words.specs.ParserWords.{parserWords, parserIn, parserReadable, freshParserIn}
-use Rattle.parser_words.specs.Parsing.{isUnfit, isStop, parsing, parseBatchOf}
+use Rattle.parser_words.specs.Stops.{isUnfit, isStop}
+use Rattle.batches.specs.Batch.{parsing, parseBatchOf}
 use Rattle.parser_words.specs.Claims.{Slots}
 use Rattle.parser_words.proofs.Slotted.{slotted}
 use Rattle.parser_words.proofs.Claimed.{states-back}

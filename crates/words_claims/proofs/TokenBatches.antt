@@ -14,9 +14,10 @@ use Rattle.tokenizer_claims.proofs.Sound.{Sound, fresh-sound, sound-fit}
 use Rattle.tokenizer_claims.proofs.Claimed.{sound-kept}
 use Rattle.tokenizer_claims.proofs.Claimed as claimed
 use Rattle.tokenizer_words.specs.Words.{wordsOf, stateIn, readable, freshIn}
-use Rattle.tokenizer_words.specs.Rows.{Taken, taken, takenBatch, batchOf, tokenizing}
+use Rattle.batches.specs.Batch.{Taken, taken, takenBatch, batchOf, tokenizing}
 use Rattle.tokenizer_words.specs.Claims.{Slots}
-use Rattle.tokenizer_words.proofs.Batches.{stored-137, over, took}
+use Rattle.tokenizer_words.proofs.Loading.{stored-137}
+use Rattle.batches.proofs.Branching.{over, took}
 use Rattle.tokenizer_words.proofs.Slotted.{slotted}
 use Rattle.tokenizer_words.proofs.Claimed.{states-back}
 use Rattle.words_claims.specs.Calls.{roomIn}

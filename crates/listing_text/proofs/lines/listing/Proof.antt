@@ -15,9 +15,11 @@ use Rattle.parser.specs.Lists.{isEnd}
 use Rattle.parser.specs.declared.state.Step.{Step}
 use Rattle.parser_words.specs.ParserWords.{parserIn}
 use Rattle.parser_claims.specs.Rests.{rest}
-use Rattle.step_words.specs.Claims.{Reading, Steps}
-use Rattle.step_words.specs.Stepping.{nextOf}
-use Rattle.step_words.proofs.Laws.{fresh-reads, next-steps}
+use Rattle.step_words.specs.Claims.{Reading}
+use Rattle.batches.specs.Claims.{ParserStep}
+use Rattle.batches.specs.Walks.{nextOf}
+use Rattle.step_words.proofs.Laws.{fresh-reads}
+use Rattle.batches.proofs.Walking.{next-steps}
 use Rattle.listing_text.specs.Listing.{header, answerText, lineText}
 use Rattle.listing_text.proofs.Placing.{Wrote, wrote, both, placed-length}
 use Rattle.listing_text.proofs.Turns.{end-zero, not-zero, line-is, Turn, start, ended, fewer, row-fits, next, over, listed}
@@ -46,7 +48,7 @@ module _ (c : tie.After-next Inv-loop μ-loop) where
   abbrev taken : Step
   taken = stepOf doc (parserIn (loop .loop .words))
 
-  stepping : Steps doc (loop .loop .words) (nextOf doc (loop .loop .words))
+  stepping : ParserStep doc (loop .loop .words) (nextOf doc (loop .loop .words))
   stepping = next-steps doc (loop .loop .words) (loop .loop .inv .0)
 
   rowed : c .next .last .1 .1 .0 ≡ rowOf (valuesOf (taken .answer))

@@ -11,9 +11,11 @@ use Rattle.parser_rules.specs.Ruling.{valuesOf}
 use Rattle.parser.specs.Step.{stepOf}
 use Rattle.parser_words.specs.ParserWords.{parserIn}
 use Rattle.parser_claims.specs.Rests.{rest}
-use Rattle.step_words.specs.Claims.{Reading, Steps}
-use Rattle.step_words.specs.Stepping.{nextOf}
-use Rattle.step_words.proofs.Laws.{fresh-reads, next-steps}
+use Rattle.step_words.specs.Claims.{Reading}
+use Rattle.batches.specs.Claims.{ParserStep}
+use Rattle.batches.specs.Walks.{nextOf}
+use Rattle.step_words.proofs.Laws.{fresh-reads}
+use Rattle.batches.proofs.Walking.{next-steps}
 use Rattle.look_up.proofs.Searched.{look-up-over}
 use Rattle.look_up.proofs.Searching.{Searching, begins, may-come, finds, falls, goes-on}
 use Rattle.look_up.proofs.search.look_up.Statement.{statement}
@@ -33,7 +35,7 @@ module _ (c : tie.After-next Inv-loop μ-loop) where
   abbrev doc : List ℕ
   doc = loop .before .before .before .before .before .before .before .args .doc .now
 
-  stepping : Steps doc (loop .loop .words) (nextOf doc (loop .loop .words))
+  stepping : ParserStep doc (loop .loop .words) (nextOf doc (loop .loop .words))
   stepping = next-steps doc (loop .loop .words) (loop .loop .inv .0)
 
   rowed : c .next .last .1 .1 .0 ≡ rowOf (valuesOf (stepOf doc (parserIn (loop .loop .words)) .answer))

@@ -3,7 +3,7 @@ use mathlib.Core.Path.{_∙_}
 use native.Mathlib.Omega.{arith}
 use borrow.Author.Tests.{lt-leb, le-leb}
 use Rattle.text.proofs.Front.{from}
-use Rattle.tokenizer_words.proofs.Batches.{loaded-137}
+use Rattle.tokenizer_words.proofs.Loading.{loaded-137}
 use Rattle.parser_words.specs.ParserWords.{parserIn, parserLoadedFrom}
 use borrow.Author.Needs.{needs}
 use Rattle.parser_words.proofs.words.load_parser.Statement.{statement}

@@ -1,0 +1,3 @@
+pub mod Batch
+pub mod Walks
+pub mod Claims
