@@ -8,6 +8,7 @@
 #include "conl.h"
 
 #include <pthread.h>
+#include <stdbool.h>
 #include <stdio.h>
 #include <stdlib.h>
 #include <string.h>
@@ -20,6 +21,25 @@ static size_t length, tokens[CONL_TOKENIZER_WORDS], parser[CONL_PARSER_WORDS];
 static size_t rows[ROOM * CONL_ROW_WORDS], answer[CONL_ANSWER_WORDS];
 
 static void *nothing(void *unused) { return unused; }
+
+static void *is_utf8(void *unused)
+{
+    conl_is_utf8(layout, length);
+    return unused;
+}
+
+static void *trim(void *unused)
+{
+    conl_trim(layout, length, true, answer, CONL_ANSWER_WORDS);
+    return unused;
+}
+
+static void *fresh(void *unused)
+{
+    conl_fresh_tokenizer(tokens, CONL_TOKENIZER_WORDS);
+    conl_fresh_parser(parser, CONL_PARSER_WORDS);
+    return unused;
+}
 
 static void *tokenize(void *unused)
 {
@@ -37,16 +57,36 @@ static void *parse(void *unused)
     return unused;
 }
 
-static void *unescape(void *unused)
+/* Lends each row to unescaping: the whole of it, or its text and indentation alone. */
+static void unescape_rows(bool whole)
 {
     size_t n;
     conl_fresh_parser(parser, CONL_PARSER_WORDS);
     do {
         n = conl_parse(layout, length, parser, CONL_PARSER_WORDS, rows, ROOM * CONL_ROW_WORDS);
-        for (size_t i = 0; i < n && i < ROOM; i++)
-            conl_unescape(layout, length, rows + i * CONL_ROW_WORDS, CONL_ROW_WORDS, out, MOST,
-                          answer, CONL_ANSWER_WORDS);
+        for (size_t i = 0; i < n && i < ROOM; i++) {
+            const size_t *row = rows + i * CONL_ROW_WORDS;
+            if (whole)
+                conl_unescape(layout, length, row, CONL_ROW_WORDS, out, MOST, answer, CONL_ANSWER_WORDS);
+            else
+                conl_unescape_text(row[CONL_ROW_NUMBER], row[CONL_ROW_LINE],
+                                   layout + row[CONL_ROW_START], row[CONL_ROW_END] - row[CONL_ROW_START],
+                                   layout + row[CONL_ROW_INDENT_START],
+                                   row[CONL_ROW_INDENT_END] - row[CONL_ROW_INDENT_START],
+                                   out, MOST, answer, CONL_ANSWER_WORDS);
+        }
     } while (n == ROOM);
+}
+
+static void *unescape(void *unused)
+{
+    unescape_rows(true);
+    return unused;
+}
+
+static void *unescape_text(void *unused)
+{
+    unescape_rows(false);
     return unused;
 }
 
@@ -76,8 +116,12 @@ int main(void)
 {
     length = fread(layout, 1, MOST, stdin);
     size_t thread = used(nothing);
+    printf("conl_is_utf8: %zu\n", used(is_utf8) - thread);
+    printf("conl_trim: %zu\n", used(trim) - thread);
+    printf("conl_fresh_tokenizer, conl_fresh_parser: %zu\n", used(fresh) - thread);
     printf("conl_tokenize: %zu\n", used(tokenize) - thread);
     printf("conl_parse: %zu\n", used(parse) - thread);
     printf("conl_parse, conl_unescape: %zu\n", used(unescape) - thread);
+    printf("conl_parse, conl_unescape_text: %zu\n", used(unescape_text) - thread);
     printf("conl_look_up: %zu\n", used(look_up) - thread);
 }

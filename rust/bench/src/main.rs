@@ -4,6 +4,7 @@
 mod documents;
 mod tasks;
 
+use crate::documents::Class;
 use crate::tasks::Task;
 use std::env;
 use std::hint::black_box;
@@ -11,11 +12,14 @@ use std::process::ExitCode;
 use std::time::{Duration, Instant};
 
 const USAGE: &str = "\
-usage: bench [--bytes N] [--rounds N]
+usage: bench [usual | worst | growth] [--bytes N] [--rounds N]
 prints tables in Markdown: classes of documents of some N bytes, at most 16777216 (default 10000000),
-and the medians of N rounds (default 9)";
+and the medians of N rounds (default 9). usual: entries of several sorts, the default; worst: what
+takes the port the longest beside the original; growth: how its time for a byte grows with the
+document";
 
 struct Options {
+    what: String,
     bytes: usize,
     rounds: usize,
 }
@@ -25,19 +29,31 @@ fn main() -> ExitCode {
         eprintln!("{USAGE}");
         return ExitCode::from(2);
     };
-    for task in tasks::ALL {
-        print_table(&task, &options);
-        println!();
+    match options.what.as_str() {
+        "usual" => print_tables(&tasks::ALL, &documents::USUAL, &options),
+        "worst" => {
+            print_tables(&tasks::ALL, &documents::WORST, &options);
+            print_tables(&tasks::ONE_ROW, &documents::USUAL, &options);
+        }
+        "growth" => print_growth(&options),
+        _ => {
+            eprintln!("{USAGE}");
+            return ExitCode::from(2);
+        }
     }
     ExitCode::SUCCESS
 }
 
 fn options() -> Option<Options> {
     let mut options = Options {
+        what: "usual".to_owned(),
         bytes: 10_000_000,
         rounds: 9,
     };
-    let mut words = env::args_os().skip(1);
+    let mut words = env::args_os().skip(1).peekable();
+    if let Some(what) = words.next_if(|word| !word.to_string_lossy().starts_with("--")) {
+        options.what = what.to_str()?.to_owned();
+    }
     while let Some(word) = words.next() {
         let number = words.next()?.to_str()?.parse().ok().filter(|&n| n > 0)?;
         match word.to_str()? {
@@ -49,13 +65,20 @@ fn options() -> Option<Options> {
     (options.bytes <= 16_777_216).then_some(options)
 }
 
-fn print_table(task: &Task, options: &Options) {
+fn print_tables(tasks: &[Task], classes: &[Class], options: &Options) {
+    for task in tasks {
+        print_table(task, classes, options);
+        println!();
+    }
+}
+
+fn print_table(task: &Task, classes: &[Class], options: &Options) {
     println!(
         "| {} | Rust, MB/s | port, MB/s | port's time over Rust's |",
         task.name
     );
     println!("|---|---:|---:|---:|");
-    for class in documents::ALL {
+    for class in classes {
         let documents = class.documents(options.bytes);
         let bytes: usize = documents.iter().map(Vec::len).sum();
         let (original, port) = medians(task, &documents, options.rounds);
@@ -67,6 +90,29 @@ fn print_table(task: &Task, options: &Options) {
             speed(port),
             port.as_secs_f64() / original.as_secs_f64(),
         );
+    }
+}
+
+/// The port's time to parse and unescape a byte, in nanoseconds, of documents of a 64th of the bytes, of
+/// an eighth and of all.
+fn print_growth(options: &Options) {
+    println!("| parsing and unescaping, ns a byte | 1/64 | 1/8 | 1 |");
+    println!("|---|---:|---:|---:|");
+    let [_, _, task] = &tasks::ALL;
+    let whole = |class: &&Class| class.is_whole();
+    for class in documents::USUAL
+        .iter()
+        .chain(&documents::WORST)
+        .filter(whole)
+    {
+        print!("| {} |", class.name);
+        for part in [64, 8, 1] {
+            let documents = class.documents(options.bytes / part);
+            let bytes: usize = documents.iter().map(Vec::len).sum();
+            let (_, port) = medians(task, &documents, options.rounds);
+            print!(" {:.2} |", port.as_secs_f64() * 1e9 / bytes as f64);
+        }
+        println!();
     }
 }
 

@@ -1,5 +1,7 @@
 //! The tasks: the sum, over all answers, of the line and of a text's length.
 
+use ::conl::port::{Parser, Row, Tokenizer};
+
 /// What both sides do with a document. They return the same number, to which each answer adds.
 pub struct Task {
     pub name: &'static str,
@@ -24,6 +26,24 @@ pub const ALL: [Task; 3] = [
         port: conl::unescaping,
     },
 ];
+
+/// The same where the library is called for each answer.
+pub const ONE_ROW: [Task; 2] = [
+    Task {
+        name: "tokenizing, one row a call",
+        original: original::tokenizing,
+        port: |document| sum_of_rows(Tokenizer::<1>::new(document)),
+    },
+    Task {
+        name: "parsing, one row a call",
+        original: original::parsing,
+        port: |document| sum_of_rows(Parser::<1>::new(document)),
+    },
+];
+
+fn sum_of_rows(rows: impl Iterator<Item = Row>) -> usize {
+    rows.map(|row| row.line + (row.end - row.start)).sum()
+}
 
 /// The tasks by one library. The two have one interface, and so the same lines serve for both.
 macro_rules! tasks_by {

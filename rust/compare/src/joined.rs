@@ -7,7 +7,7 @@ use crate::random::Random;
 use crate::readings::{bound, COMMENT, INDENT, LIST_ITEM, MAP_KEY, MULTILINE_VALUE, OUTDENT};
 use crate::tally::Tally;
 use crate::texts::every;
-use crate::unescaping::{self, by_port, to_spare};
+use crate::unescaping::{self, by_row, to_spare};
 use conl::port::{Parser, Row, Tokenizer, REFUSED};
 use std::iter;
 
@@ -228,12 +228,12 @@ fn top_sort(rows: &[Row]) -> Option<usize> {
 fn texts(document: &[u8], rows: &[Row], raise: Raise) -> Vec<Unescaped> {
     let mut texts = Vec::new();
     for row in rows.iter().filter(|row| row.number < REFUSED) {
-        let answer = by_port(document, row, to_spare(row));
+        let answer = by_row(document, row, to_spare(row));
         let too_short = match &answer {
             Ok(Text::Written(bytes)) => bytes.len().checked_sub(1),
             _ => None,
         };
-        let others = too_short.map(|room| by_port(document, row, room));
+        let others = too_short.map(|room| by_row(document, row, room));
         let answers = iter::once(answer).chain(others);
         texts.extend(answers.map(|answer| match answer {
             Ok(Text::Plain(part)) => Unescaped::Part(document[part].to_vec()),

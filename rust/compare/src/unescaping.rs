@@ -87,18 +87,25 @@ pub fn compare(tally: &mut Tally, document: &[u8]) {
     compare_tokens(tally, document, tokens);
 }
 
-/// Puts to both sides the tokens that `tokens` finds in a text.
+/// Puts to both sides the tokens that `tokens` finds in a text. The port unescapes each as a row of the
+/// document and as a text of its own.
 fn compare_tokens(tally: &mut Tally, text: &[u8], tokens: impl Fn(&[u8]) -> Vec<Token>) {
     let rust = |document: &[u8]| answers(document, &tokens(document));
-    let port = |document: &[u8], said: &Vec<Said>| {
-        let port = |&Said { row, room, .. }: &Said| Said {
-            row,
-            room,
-            answer: by_port(document, &row, room),
-        };
-        said.iter().map(port).collect()
+    let port = |way: fn(&[u8], &Row, usize) -> Answer| {
+        move |document: &[u8], said: &Vec<Said>| {
+            let port = |&Said { row, room, .. }: &Said| Said {
+                row,
+                room,
+                answer: way(document, &row, room),
+            };
+            said.iter().map(port).collect()
+        }
     };
-    for said in tally.compare_each(text, rust, [("port", port)]) {
+    let ports = [
+        ("port, by the row", port(by_row)),
+        ("port, by the text", port(by_text)),
+    ];
+    for said in tally.compare_each(text, rust, ports) {
         tally.saw(match said.answer.expect("the original has no buffer") {
             Text::Plain(_) => "plain",
             Text::Written(_) => "written",
@@ -148,12 +155,32 @@ fn by_original(document: &[u8], row: &Row, text: &Text, room: usize) -> Answer {
     })
 }
 
-/// What the port says with a buffer of `room` bytes.
-pub fn by_port(document: &[u8], row: &Row, room: usize) -> Answer {
+/// What the port says of a row with a buffer of `room` bytes.
+pub fn by_row(document: &[u8], row: &Row, room: usize) -> Answer {
+    with_buffer(room, 0, |buffer| port::unescape(document, row, buffer))
+}
+
+/// What the port says of its text, and indentation, given apart. Over the limit the document is given as
+/// the text, so that it is refused too.
+fn by_text(document: &[u8], row: &Row, room: usize) -> Answer {
+    let part = if document.len() > LIMIT {
+        0..document.len()
+    } else {
+        row.start..row.end
+    };
+    let start = part.start;
+    let (text, indentation) = (&document[part], &document[row.from..row.to]);
+    with_buffer(room, start, |buffer| {
+        port::unescape_text(row.number, row.line, text, indentation, buffer)
+    })
+}
+
+/// What is said with a buffer of `room` bytes, of a text that starts at `start`.
+fn with_buffer(room: usize, start: usize, unescape: impl FnOnce(&mut [u8]) -> Unescaped) -> Answer {
     // Bytes that no UTF-8 has.
     let filled = |place: usize| 0xF8 | (place % 8) as u8;
     let mut buffer: Vec<u8> = (0..room).map(filled).collect();
-    let unescaped = port::unescape(document, row, &mut buffer);
+    let unescaped = unescape(&mut buffer);
     let written = match unescaped {
         Unescaped::Written(len) => len,
         _ => 0,
@@ -162,7 +189,7 @@ pub fn by_port(document: &[u8], row: &Row, room: usize) -> Answer {
         return Err(buffer);
     }
     Ok(match unescaped {
-        Unescaped::Plain(part) => Text::Plain(part),
+        Unescaped::Plain(part) => Text::Plain(start + part.start..start + part.end),
         Unescaped::Written(len) => Text::Written(buffer[..len].to_vec()),
         Unescaped::Refused {
             number,
@@ -171,7 +198,12 @@ pub fn by_port(document: &[u8], row: &Row, room: usize) -> Answer {
         } => Text::Refused {
             number,
             line,
-            shown,
+            // Only 8 shows a part.
+            shown: if number == 8 {
+                start + shown.start..start + shown.end
+            } else {
+                shown
+            },
         },
     })
 }

@@ -17,4 +17,4 @@ pub use parser::{parse, Parser, ParserState};
 pub use rows::{Row, Rows, State, NO_STEP, REFUSED, WORDS};
 pub use text::{is_utf8, trim, Trim};
 pub use tokenizer::{tokenize, Tokenizer, TokenizerState};
-pub use unescape::{unescape, Unescaped};
+pub use unescape::{unescape, unescape_text, Unescaped};

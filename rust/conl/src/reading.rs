@@ -8,8 +8,8 @@ use std::str;
 /// How many rows are fetched at a time.
 const ROOM: usize = 256;
 
-/// A document, and the rows of its reading from the fresh state on. These are boxed: they are some
-/// 16,000 bytes, and iterators are moved about.
+/// A document, and the rows of its reading from the fresh state on. These are boxed: the state in them
+/// is up to 1,704 bytes, and iterators are moved about.
 pub struct Reading<'tok, S> {
     document: &'tok [u8],
     rows: Box<Rows<'tok, S, ROOM>>,

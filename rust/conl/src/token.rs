@@ -89,6 +89,7 @@ impl<'tok> Token<'tok> {
     }
 
     /// The token's number in a row.
+    #[inline(always)]
     pub(crate) fn number(&self) -> usize {
         match self {
             Token::Newline(_) => 1,
@@ -104,19 +105,20 @@ impl<'tok> Token<'tok> {
         }
     }
 
-    /// The indentation and the text, each empty where the token has none.
-    pub(crate) fn texts(&self) -> (&'tok str, &'tok str) {
+    /// The indentation and the text, where the token has one; only a multiline value has both.
+    #[inline(always)]
+    pub(crate) fn texts(&self) -> Option<(&'tok str, &'tok str)> {
         match *self {
             Token::Comment(_, text)
             | Token::MapKey(_, text)
             | Token::Value(_, text)
-            | Token::MultilineHint(_, text) => ("", text),
-            Token::MultilineValue(_, indentation, text) => (indentation, text),
+            | Token::MultilineHint(_, text) => Some(("", text)),
+            Token::MultilineValue(_, indentation, text) => Some((indentation, text)),
             Token::Newline(_)
             | Token::Indent(_)
             | Token::Outdent(_)
             | Token::ListItem(_)
-            | Token::NoValue(_) => ("", ""),
+            | Token::NoValue(_) => None,
         }
     }
 }

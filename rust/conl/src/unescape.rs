@@ -1,7 +1,7 @@
 //! What a token's text says.
 
 use crate::error::SyntaxError;
-use crate::port::{self, Row, Unescaped};
+use crate::port::{self, Unescaped};
 use crate::token::Token;
 use std::borrow::Cow;
 
@@ -11,41 +11,42 @@ impl<'tok> Token<'tok> {
     /// hint's text says what it is, and a token without a text says nothing.
     ///
     /// It is borrowed where it stands in the token's text just so.
+    #[inline(always)]
     pub fn unescape(&self) -> Result<Cow<'tok, str>, SyntaxError> {
-        let (indentation, text) = self.texts();
-        // The library unescapes a token of a document, and here there is no document but its texts.
-        // The text alone will do where the indentation stands anywhere in it: mostly there is none,
-        // or a later line begins with it.
-        match text.find(indentation) {
-            Some(from) => self.unescape_in(text, 0, from),
-            None => {
-                let document = [indentation, text].concat();
-                self.unescape_in(&document, indentation.len(), 0)
+        let Some((indentation, text)) = self.texts() else {
+            return Ok(Cow::Borrowed(""));
+        };
+        // Most keys and values are plain and need no buffer; most multiline values are written.
+        if !matches!(self, Token::MultilineValue(..)) {
+            if let Unescaped::Plain(part) = self.unescape_into(indentation, text, &mut []) {
+                return Ok(Cow::Borrowed(&text[part]));
             }
         }
+        self.unescape_written(indentation, text)
     }
 
-    /// The same where the text stands in `document` from `start` on, the indentation from `from` on.
-    fn unescape_in(
+    #[inline(always)]
+    fn unescape_into(&self, indentation: &str, text: &str, out: &mut [u8]) -> Unescaped {
+        port::unescape_text(
+            self.number(),
+            self.line_number(),
+            text.as_bytes(),
+            indentation.as_bytes(),
+            out,
+        )
+    }
+
+    /// The same with a buffer. What is written is never longer than the text: docs/CLAIMS.md, 8,
+    /// 'Shorter'.
+    #[inline(never)]
+    fn unescape_written(
         &self,
-        document: &str,
-        start: usize,
-        from: usize,
+        indentation: &'tok str,
+        text: &'tok str,
     ) -> Result<Cow<'tok, str>, SyntaxError> {
-        let (indentation, text) = self.texts();
-        let row = Row {
-            number: self.number(),
-            line: self.line_number(),
-            start,
-            end: start + text.len(),
-            from,
-            to: from + indentation.len(),
-        };
-        let mut out = vec![0; self.room()];
-        match port::unescape(document.as_bytes(), &row, &mut out) {
-            Unescaped::Plain(part) => {
-                Ok(Cow::Borrowed(&text[part.start - start..part.end - start]))
-            }
+        let mut out = vec![0; text.len()];
+        match self.unescape_into(indentation, text, &mut out) {
+            Unescaped::Plain(part) => Ok(Cow::Borrowed(&text[part])),
             Unescaped::Written(len) => {
                 out.truncate(len);
                 let written = String::from_utf8(out);
@@ -57,24 +58,7 @@ impl<'tok> Token<'tok> {
                 number,
                 line,
                 shown,
-            } => Err(SyntaxError::refused(number, line, &document[shown])),
-        }
-    }
-
-    /// How many bytes may have to be written. Nothing is where quotes have no escape between them, or
-    /// a multiline value is one line; and what is written is never longer than the text, since no
-    /// escape and no break is shorter than what it stands for.
-    fn room(&self) -> usize {
-        match *self {
-            Token::MapKey(_, text) | Token::Value(_, text)
-                if text.starts_with('"') && text.contains('\\') =>
-            {
-                text.len()
-            }
-            Token::MultilineValue(_, _, text) if text.contains('\n') || text.contains('\r') => {
-                text.len()
-            }
-            _ => 0,
+            } => Err(SyntaxError::refused(number, line, &text[shown])),
         }
     }
 }

@@ -72,13 +72,13 @@ pub trait State {
     fn words(&mut self) -> &mut [usize];
 }
 
-/// The rows of a reading, fetched `ROOM` at a time.
+/// The rows of a reading, fetched `ROOM` at a time, and fewer at a time of a small document.
 ///
 /// A document that the library refuses to read has one row: the refusal, on line 0.
 pub struct Rows<'doc, S, const ROOM: usize> {
     document: &'doc [u8],
     state: S,
-    fetched: [[usize; WORDS]; ROOM],
+    fetched: Vec<[usize; WORDS]>,
     unread: Range<usize>,
     ended: bool,
 }
@@ -86,10 +86,13 @@ pub struct Rows<'doc, S, const ROOM: usize> {
 impl<'doc, S: State, const ROOM: usize> Rows<'doc, S, ROOM> {
     pub fn new(document: &'doc [u8]) -> Self {
         const { assert!(ROOM > 0) };
+        // Some four bytes go to a row in the documents that were measured: a guess, which decides
+        // nothing but how often the library is called.
+        let room = ROOM.min(document.len() / 4 + 8);
         Rows {
             document,
             state: S::fresh(),
-            fetched: [[0; WORDS]; ROOM],
+            fetched: vec![[0; WORDS]; room],
             unread: 0..0,
             ended: false,
         }
@@ -100,7 +103,7 @@ impl<'doc, S: State, const ROOM: usize> Rows<'doc, S, ROOM> {
     fn fetch(&mut self) {
         let rows = self.fetched.as_flattened_mut();
         let written = self.state.advance(self.document, rows);
-        self.ended = written != ROOM;
+        self.ended = written != rows.len() / WORDS;
         self.unread = match written.checked_sub(NO_STEP) {
             None => 0..written,
             Some(number) => {
