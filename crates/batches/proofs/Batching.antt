@@ -1,5 +1,4 @@
--- The batches: what was taken in words is what the rules take. Before that, 15 by its number, and what is loaded from 213 words and
--- stored in them.
+-- The batches: what was taken in words is what the rules take. Before that, 15 by its number.
 use Prim.Native.Nat.{ℕ, _+_, _/_, _^_, _≤_}
 use mathlib.Core.Path.{_≡_, refl, sym, ap, _∙_}
 use mathlib.Core.List.{List, [], _∷_, _++_}
@@ -24,12 +23,12 @@ use Rattle.batches.specs.Batch.{Taken, taken, Batch, tokenizing, batchOf
 use Rattle.tokenizer_words.proofs.Pasting.{pasted-room, pasted-front}
 use Rattle.tokenizer_words.proofs.Slots.{words-137}
 use Rattle.tokenizer_words.proofs.Standing.{slots-64}
-use Rattle.tokenizer_words.proofs.Loading.{has-137, stored-137}
+use Rattle.tokenizer_words.proofs.Storing.{has-137, stored-137}
 use Rattle.batches.proofs.Branching.{unfit, took, promised}
-use Rattle.parser_words.specs.ParserWords.{parserWords, parserIn, parserReadable, parserLoadedFrom, parserStoredIn}
+use Rattle.parser_words.specs.ParserWords.{parserWords, parserIn, parserReadable, parserStoredIn}
 use Rattle.parser_words.specs.Stops.{isUnfit, isStop}
 use Rattle.batches.specs.Batch.{parsing, parseBatchOf}
-use Rattle.parser_words.proofs.Tests.{has-213}
+use Rattle.parser_words.proofs.Tests.{has-213, stored-213}
 use Rattle.step_words.specs.Stepping.{Gone, stepIn}
 use Rattle.batches.specs.Walks.{stepping, lastOf}
 use Rattle.step_words.specs.Claims.{Whole}
@@ -51,14 +50,6 @@ unfit-is (answer.Refused n l) =
     by-bool (eqb n 15)
     (λ e. let k : n ≡ 15 = eqb-true n 15 e in rw k)
     (λ e. rw (e, ne-eqb (256 + n) 271 (λ q. let k : n ≡ 15 = omega arith in clash (sym (eq-eqb n 15 k) ∙ e))))
-
-pub loaded-213 : (w : List ℕ) → 213 ≤ length w → parserLoadedFrom w ≡ parserIn w
-unfolding parserLoadedFrom
-loaded-213 w h = rw (le-leb 213 (length w) h)
-
-pub stored-213 : (s : State) (w : List ℕ) → 213 ≤ length w → parserStoredIn s w ≡ parserWords s ++ drop 213 w
-unfolding parserStoredIn
-stored-213 s w h = rw (le-leb 213 (length w) h)
 
 -- the first n words, pasted at the front
 pasted-first : (a r w : List ℕ) (n : ℕ) → length a ≡ n → n ≤ length w → pastedIn (take n (a ++ r)) 0 w ≡ a ++ drop n w

@@ -3,9 +3,7 @@ use crate::rows::TOO_LONG;
 use crate::rows::UNFIT;
 use crate::rows::put_back;
 use crate::rows::take_rows;
-use parser_words::is_parser;
-use parser_words::load_parser;
-use parser_words::store_parser;
+use parser_words::restore_parser;
 use step_words::Layer;
 use tokenizer::State;
 ghost use mathlib.Core.Path.{_≡_};
@@ -22,15 +20,7 @@ fn put_parser(n: usize, state: &[usize], words: &mut [usize; 213]) -> bool
     ensures { λ r. ⌜ r ≡ (parserReadable (now (state .entry)) && fit n (parserIn (now (state .entry)) .tokenizer)) ⌝ }
     ensures { λ r. ⌜ now (words .exit) ≡ cond r (parserStoredIn (parserIn (now (state .entry))) (now (words .entry))) (now (words .entry)) ⌝ }
 {
-    if !is_parser(state) {
-        return false;
-    }
-    let s = load_parser(state);
-    let tokenizer = s.tokenizer;
-    if !tokenizer.fits(n) {
-        return false;
-    }
-    store_parser(s, words)
+    restore_parser(n, state, words)
 }
 
 // Whether the first step is 15 where fewer than seven words leave no room for its row: it is tried on a copy of the words.

@@ -5,9 +5,7 @@ use crate::rows::put_back;
 use crate::rows::take_rows;
 use step_words::Layer;
 use tokenizer::State;
-use tokenizer_words::is_readable;
-use tokenizer_words::load;
-use tokenizer_words::store;
+use tokenizer_words::restore;
 ghost use mathlib.Core.Path.{_≡_};
 ghost use mathlib.Core.Bool.{cond, _&&_};
 ghost use Rattle.tokenizer.specs.Step.{fit};
@@ -19,14 +17,7 @@ fn put_tokenizer(n: usize, state: &[usize], words: &mut [usize; 213]) -> bool
     ensures { λ r. ⌜ r ≡ (readable (now (state .entry)) && fit n (stateIn (now (state .entry)))) ⌝ }
     ensures { λ r. ⌜ now (words .exit) ≡ cond r (storedIn (stateIn (now (state .entry))) (now (words .entry))) (now (words .entry)) ⌝ }
 {
-    if !is_readable(state) {
-        return false;
-    }
-    let s = load(state);
-    if !s.fits(n) {
-        return false;
-    }
-    store(s, words)
+    restore(n, state, words)
 }
 
 // Takes answers until End comes or no room is left for a row: how many; or, with nothing written, a refusal, 12 before 15.

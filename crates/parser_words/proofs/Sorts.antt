@@ -1,4 +1,4 @@
--- The sorts of the open sections, a word each: one more is read, tested, written; and the words of a whole parser's state.
+-- The sorts of the open sections, a word each: one more is tested, written; and the words of a whole parser's state.
 use Prim.Native.Nat.{ℕ, zero, suc, _+_, _≤_, _<_}
 use mathlib.Core.Path.{_≡_, refl, ap, _∙_}
 use mathlib.Core.List.{List, [], _∷_, _++_, append-assoc}
@@ -38,20 +38,6 @@ pub sections-length : (n : ℕ) (w : List ℕ) → length (sectionsIn n w) ≡ n
 unfolding sectionsIn
 sections-length zero w = refl
 sections-length (suc n) w = ap suc (sections-length n (drop 1 w))
-
--- the section after n others
-sections-more : (n : ℕ) (w : List ℕ) → sectionsIn (suc n) w ≡ sectionsIn n w ++ (record { sort = sortIn (getD w n 0) } ∷ [])
-unfolding sectionsIn
-sections-more zero w = refl
-sections-more (suc n) w = let i : 1 + n ≡ suc n = omega arith in rw (sections-more n (drop 1 w), getD-drop 1 w n 0, i)
-
--- one sort more is read
-pub read-sort : (zs : List Section) (z : Section) (w : List ℕ) (i : ℕ) → i < length zs
-    → set (sectionsIn i (drop 148 w) ++ drop i zs) i (record { sort = sortIn (getD w (148 + i) 0) })
-    ≡ sectionsIn (i + 1) (drop 148 w) ++ drop (i + 1) zs
-read-sort zs z w i h =
-    rw (written-more (sectionsIn i (drop 148 w)) zs _ z i (sections-length i (drop 148 w)) h)
-    (rw (add-one, sections-more i (drop 148 w), getD-drop 148 w i 0))
 
 -- one sort more is tested
 pub sorts-more : (n : ℕ) (w : List ℕ) (i : ℕ) → areSorts (suc n) (drop i w) ≡ (leb (getD w i 0) 2 && areSorts n (drop (i + 1) w))

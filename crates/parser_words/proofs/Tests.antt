@@ -1,12 +1,14 @@
 -- What a test tells: the last arm of a `match` over the numbers from 1 on, and the words of a readable state.
 use Prim.Native.Nat.{ℕ, zero, suc, _≤_, _<_}
 use mathlib.Core.Path.{_≡_, refl}
-use mathlib.Core.List.{List, _∷_}
+use mathlib.Core.List.{List, _∷_, _++_}
 use mathlib.Core.Bool.{true}
 use native.Mathlib.Omega.{arith}
-use lib.ListN.{length, getD, List·getD-eq-default}
-use Rattle.tokenizer_words.proofs.Loading.{enough}
-use Rattle.parser_words.specs.ParserWords.{parserReadable}
+use lib.ListN.{length, drop, getD, List·getD-eq-default}
+use borrow.Author.Tests.{le-leb}
+use Rattle.parser.specs.declared.state.State.{State}
+use Rattle.tokenizer_words.proofs.Storing.{enough}
+use Rattle.parser_words.specs.ParserWords.{parserWords, parserStoredIn, parserReadable}
 
 -- n is none of the numbers from 1 to k
 abbrev pub NoneOf : ℕ → ℕ → Type 0
@@ -27,3 +29,7 @@ first-else x l (suc n) h =
 pub has-213 : (w : List ℕ) → parserReadable w ≡ true → 213 ≤ length w
 unfolding parserReadable
 has-213 w e = enough 213 (length w) _ e
+
+pub stored-213 : (s : State) (w : List ℕ) → 213 ≤ length w → parserStoredIn s w ≡ parserWords s ++ drop 213 w
+unfolding parserStoredIn
+stored-213 s w h = rw (le-leb 213 (length w) h)

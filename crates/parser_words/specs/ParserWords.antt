@@ -103,10 +103,6 @@ parserIn w = record {
   count = getD w 147 0;
 }
 
--- the same where there are 213 words; else the fresh state
-unfoldable pub parserLoadedFrom : List ℕ → State
-parserLoadedFrom w = cond (leb parserSize (length w)) (parserIn w) fresh
-
 -- the words with the state at their front; unchanged where there are fewer than 213
 unfoldable pub parserStoredIn : State → List ℕ → List ℕ
 parserStoredIn s w = cond (leb parserSize (length w)) (parserWords s ++ drop parserSize w) w

@@ -3,7 +3,7 @@ mod words;
 
 pub use words::fresh_parser;
 pub use words::is_parser;
-pub use words::load_parser;
+pub use words::restore_parser;
 pub use words::sort_word;
 pub use words::store_parser;
 pub use words::token_in;

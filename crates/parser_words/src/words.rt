@@ -8,16 +8,21 @@ use text::Part;
 use tokenizer::Token;
 use tokenizer_words::bare_row;
 use tokenizer_words::flag_of;
+use tokenizer_words::held_by;
+use tokenizer_words::held_words;
+use tokenizer_words::is_fit;
 use tokenizer_words::is_readable;
-use tokenizer_words::load;
 use tokenizer_words::paste;
 use tokenizer_words::store;
 use tokenizer_words::token_row;
 ghost use mathlib.Core.Path.{_≡_};
+ghost use mathlib.Core.Bool.{cond, _&&_};
+ghost use mathlib.Core.List.{[], _∷_, _++_};
 ghost use Prim.Native.Nat.{_≤_};
 ghost use lib.Dec.{leb};
-ghost use lib.ListN.{length, getD, drop};
-ghost use Rattle.tokenizer_words.specs.Words.{pasted};
+ghost use lib.ListN.{length, getD, take, drop};
+ghost use Rattle.tokenizer.specs.Step.{fit};
+ghost use Rattle.tokenizer_words.specs.Words.{pasted, pastedIn, flag, heldWords, stateIn};
 ghost use Rattle.parser.specs.Step.{maxSections};
 ghost use Rattle.parser_words.specs.ParserWords.{
   parserSize,
@@ -27,14 +32,11 @@ ghost use Rattle.parser_words.specs.ParserWords.{
   keptWords,
   middleWords,
   parserStoredIn,
-  sortIn,
-  sectionsIn,
   awaitedIn,
   tokenBy,
   tokenIn,
   keptIn,
   parserIn,
-  parserLoadedFrom,
   areSorts,
   parserReadable,
   freshParserIn,
@@ -65,30 +67,6 @@ pub fn is_parser(w: &[usize]) -> bool
     let front = is_readable(w);
     let sorts = are_sorts(w);
     front & ((w[137] <= 1) & ((w[138] <= 2) & ((w[140] <= 11) & sorts)))
-}
-
-fn sort_in(n: usize) -> Sort
-    ensures { λ r. ⌜ r ≡ sortIn n ⌝ }
-{
-    match n {
-        1 => Sort::Map,
-        2 => Sort::List,
-        _ => Sort::Unset,
-    }
-}
-
-fn sections_in(w: &[usize]) -> [Section; 65]
-    requires { ⌜ parserSize ≤ length (now w) ⌝ }
-    ensures { λ r. ⌜ r ≡ sectionsIn maxSections (drop 148 (now (w .entry))) ⌝ }
-{
-    let mut sections = [Section { sort: Sort::Unset }; 65];
-    let mut i = 0;
-    while i < 65 {
-        let sort = sort_in(w[148 + i]);
-        sections[i] = Section { sort };
-        i += 1;
-    }
-    sections
 }
 
 fn awaited_in(n: usize, line: usize) -> Awaited
@@ -153,27 +131,6 @@ fn kept_in(w: &[usize]) -> Kept
     Kept::Token(token_in(w))
 }
 
-// The state in the words; the fresh one where there are fewer than 213.
-pub fn load_parser(w: &[usize]) -> State
-    ensures { λ r. ⌜ r ≡ parserLoadedFrom (now (w .entry)) ⌝ }
-{
-    if w.len() < 213 {
-        return State::new();
-    }
-    let tokenizer = load(w);
-    let kept = kept_in(&w[140..]);
-    let awaited = awaited_in(w[138], w[139]);
-    let sections = sections_in(w);
-    State {
-        tokenizer,
-        kept,
-        awaited,
-        refused: w[137] == 1,
-        sections,
-        count: w[147],
-    }
-}
-
 // A sort's word.
 pub fn sort_word(s: Sort) -> usize
     ensures { λ r. ⌜ r ≡ sortWord s ⌝ }
@@ -206,15 +163,13 @@ fn kept_words(k: Kept) -> [usize; 7]
 }
 
 // The eleven words between the tokenizer's and the sorts.
-fn middle(s: State) -> [usize; 11]
-    ensures { λ r. ⌜ r ≡ middleWords s ⌝ }
+fn middle_by(refused: bool, awaited: Awaited, kept: Kept, count: usize) -> [usize; 11]
+    ensures { λ r. ⌜ r ≡ flag refused ∷ (awaitedWords awaited ++ keptWords kept ++ (count ∷ [])) ⌝ }
 {
-    let awaited = s.awaited;
-    let kept = s.kept;
     let a = awaited_words(awaited);
     let k = kept_words(kept);
     [
-        flag_of(s.refused),
+        flag_of(refused),
         a[0],
         a[1],
         k[0],
@@ -224,11 +179,19 @@ fn middle(s: State) -> [usize; 11]
         k[4],
         k[5],
         k[6],
-        s.count,
+        count,
     ]
 }
 
-// Writes the sorts where sections_in reads them.
+fn middle(s: State) -> [usize; 11]
+    ensures { λ r. ⌜ r ≡ middleWords s ⌝ }
+{
+    let awaited = s.awaited;
+    let kept = s.kept;
+    middle_by(s.refused, awaited, kept, s.count)
+}
+
+// Writes the sorts, a word each, after the 148.
 fn put_sorts(sections: [Section; 65], w: &mut [usize])
     requires { ⌜ parserSize ≤ length (now w) ⌝ }
     ensures { λ _. ⌜ now (w .exit) ≡ pasted (sortWords sections) 148 (now (w .entry)) ⌝ }
@@ -256,6 +219,48 @@ pub fn store_parser(s: State, words: &mut [usize]) -> bool
     store(tokenizer, words);
     paste(&m, 137, words);
     put_sorts(sections, words);
+    true
+}
+
+// The eleven words again, with 0 for those that stand for nothing.
+fn middle_in(w: &[usize]) -> [usize; 11]
+    requires { ⌜ parserSize ≤ length (now w) ⌝ }
+    ensures { λ r. ⌜ r ≡ middleWords (parserIn (now (w .entry))) ⌝ }
+{
+    let kept = kept_in(&w[140..]);
+    let awaited = awaited_in(w[138], w[139]);
+    middle_by(w[137] == 1, awaited, kept, w[147])
+}
+
+// Copies the words of a state, with 0 for those that stand for nothing.
+fn copy_parser(src: &[usize], dst: &mut [usize])
+    requires { ⌜ parserSize ≤ length (now src) ⌝ }
+    ensures { λ _. ⌜ now (dst .exit) ≡ pastedIn (middleWords (parserIn (now (src .entry)))) 137 (pastedIn (heldWords (stateIn (now (src .entry)) .held)) 5 (pastedIn (take parserSize (now (src .entry))) 0 (now (dst .entry)))) ⌝ }
+{
+    let held = held_by(src[5], src[6], src[7]);
+    let h = held_words(held);
+    let m = middle_in(src);
+    paste(&src[..213], 0, dst);
+    paste(&h, 5, dst);
+    paste(&m, 137, dst);
+}
+
+// Stores at the front of dst the state of src: true; or false, with nothing written, where it is no state, or does not fit a document
+// of n bytes. The state never leaves its words.
+pub fn restore_parser(n: usize, src: &[usize], dst: &mut [usize]) -> bool
+    ensures { λ r. ⌜ r ≡ (parserReadable (now (src .entry)) && fit n (parserIn (now (src .entry)) .tokenizer)) ⌝ }
+    ensures { λ r. ⌜ now (dst .exit) ≡ cond r (parserStoredIn (parserIn (now (src .entry))) (now (dst .entry))) (now (dst .entry)) ⌝ }
+{
+    if !is_parser(src) {
+        return false;
+    }
+    if !is_fit(n, src) {
+        return false;
+    }
+    if dst.len() < 213 {
+        return true;
+    }
+    copy_parser(src, dst);
     true
 }
 

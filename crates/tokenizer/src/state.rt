@@ -63,13 +63,14 @@ pub struct Step {
 }
 
 // Whether p neither ends before it starts nor ends past n bytes.
-pub(crate) fn part_fits(p: Part, n: usize) -> bool
+pub fn part_fits(p: Part, n: usize) -> bool
     ensures { λ r. ⌜ r ≡ fitPart n p ⌝ }
 {
     p.start <= p.end && p.end <= n
 }
 
-pub(crate) fn held_fits(held: Held, n: usize) -> bool
+// The same of what is held, if anything.
+pub fn held_fits(held: Held, n: usize) -> bool
     ensures { λ r. ⌜ r ≡ fitHeld n held ⌝ }
 {
     match held {

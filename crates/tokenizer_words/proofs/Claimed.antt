@@ -17,7 +17,7 @@ use Rattle.tokenizer_words.specs.Words.{flag, heldWords, partWords, fron
 use Rattle.tokenizer_words.specs.Rows.{rowOf, rowsOf}
 use Rattle.tokenizer_words.specs.Claims.{Slots, StatesBack, StoredBack, AnswerRows, AnswerLists, Layout}
 use Rattle.tokenizer_words.proofs.Slots.{held-words, words-137}
-use Rattle.tokenizer_words.proofs.Loading.{loaded-137, stored-137}
+use Rattle.tokenizer_words.proofs.Storing.{stored-137}
 use Rattle.tokenizer_words.proofs.Standing.{state-back}
 
 held-tells : (h : Held) → leb (getD (heldWords h) 0 0) 1 ≡ true
@@ -44,7 +44,7 @@ pub states-back : StatesBack
 states-back s r e = record { state = state-back s r e; reads = state-reads s r e }
 
 pub stored-back : StoredBack
-stored-back s w e h = rw (stored-137 s w h, loaded-137 (wordsOf s ++ drop 137 w) (long s (drop 137 w) e)) (state-back s (drop 137 w) e)
+stored-back s w e h = rw (stored-137 s w h) (state-back s (drop 137 w) e)
 
 -- the values in a row
 abbrev valuesIn : List ℕ → Values

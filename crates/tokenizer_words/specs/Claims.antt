@@ -15,7 +15,7 @@ use Rattle.tokenizer.specs.declared.state.Answer.{Answer}
 use Rattle.tokenizer.specs.declared.state.Answer.the-variants as answer
 use Rattle.tokenizer.specs.declared.state.Held.the-variants.{At}
 use Rattle.tokenizer.specs.declared.state.State.{State}
-use Rattle.tokenizer_words.specs.Words.{tokenizerSize, wordsOf, storedIn, stateIn, loadedFrom, readable}
+use Rattle.tokenizer_words.specs.Words.{tokenizerSize, wordsOf, storedIn, stateIn, readable}
 use Rattle.tokenizer_words.specs.Rows.{rowOf, rowsOf}
 
 -- a state has its slots, one for each section that may be open: the code's array has no other length
@@ -30,9 +30,9 @@ pub record Back (s : State) (r : List ℕ) : Type 0 where
 abbrev pub StatesBack : Type 0
 StatesBack = (s : State) (r : List ℕ) → Slots s → Back s r
 
--- also where it is stored and loaded
+-- also where it is stored
 abbrev pub StoredBack : Type 0
-StoredBack = (s : State) (w : List ℕ) → Slots s → tokenizerSize ≤ length w → loadedFrom (storedIn s w) ≡ s
+StoredBack = (s : State) (w : List ℕ) → Slots s → tokenizerSize ≤ length w → stateIn (storedIn s w) ≡ s
 
 -- so every state of a reading is: the fresh one has its slots, and a step keeps them
 pub record Slotted : Type 0 where

@@ -72,10 +72,6 @@ stateIn w = record {
   depth = getD w 8 0;
 }
 
--- the same where there are 137 words; else the fresh state
-unfoldable pub loadedFrom : List ℕ → State
-loadedFrom w = cond (leb tokenizerSize (length w)) (stateIn w) fresh
-
 -- the words are a state's: there are 137, and what is to be 0 or 1 is; else they are an unfit state, 15
 unfoldable pub readable : List ℕ → Bool
 readable w = leb tokenizerSize (length w) && (leb (getD w 2 0) 1 && (leb (getD w 3 0) 1 && (leb (getD w 4 0) 1 && leb (getD w 5 0) 1)))

@@ -1,13 +1,15 @@
 // A state in the words of a lent slice, in the order of specs/Words.
 use text::Part;
 use tokenizer::Held;
-use tokenizer::Marks;
 use tokenizer::State;
+use tokenizer::held_fits;
+use tokenizer::part_fits;
 ghost use mathlib.Core.Path.{_≡_};
+ghost use mathlib.Core.Bool.{cond, _&&_};
 ghost use Prim.Native.Nat.{_≤_};
 ghost use lib.Dec.{leb};
-ghost use lib.ListN.{length, drop};
-ghost use Rattle.text.specs.Numbers.{maxOpen};
+ghost use lib.ListN.{length, take};
+ghost use Rattle.tokenizer.specs.Step.{fit};
 ghost use Rattle.tokenizer_words.specs.Words.{
   tokenizerSize,
   pasted,
@@ -18,9 +20,7 @@ ghost use Rattle.tokenizer_words.specs.Words.{
   partWords,
   frontWords,
   storedIn,
-  partsIn,
   stateIn,
-  loadedFrom,
   readable,
   freshIn,
 };
@@ -46,44 +46,48 @@ pub fn held_by(held: usize, start: usize, end: usize) -> Held
     }
 }
 
-// The slots stand after nine words, two words each.
-fn indents_in(w: &[usize]) -> [Part; 64]
+// Whether the state in the words fits a document of n bytes: tokenizer::State::fits, by the words.
+fn fits_in(n: usize, w: &[usize]) -> bool
     requires { ⌜ tokenizerSize ≤ length (now w) ⌝ }
-    ensures { λ r. ⌜ r ≡ partsIn maxOpen (drop 9 (now (w .entry))) ⌝ }
+    ensures { λ r. ⌜ r ≡ fit n (stateIn (now (w .entry))) ⌝ }
 {
-    let mut indents = [Part { start: 0, end: 0 }; 64];
+    if n < w[0] {
+        return false;
+    }
+    if w[1] == 0 {
+        return false;
+    }
+    if w[0] < w[1] - 1 {
+        return false;
+    }
+    let held = held_by(w[5], w[6], w[7]);
+    if !held_fits(held, n) {
+        return false;
+    }
+    if State::MAX_OPEN < w[8] {
+        return false;
+    }
+    let mut open_fit = true;
     let mut i = 0;
-    while i < 64 {
-        indents[i] = Part {
+    while i < w[8] {
+        let p = Part {
             start: w[9 + 2 * i],
             end: w[10 + 2 * i],
         };
+        open_fit = open_fit & part_fits(p, n);
         i += 1;
     }
-    indents
+    open_fit
 }
 
-// The state in the words; the fresh one where there are fewer than 137.
-pub fn load(w: &[usize]) -> State
-    ensures { λ r. ⌜ r ≡ loadedFrom (now (w .entry)) ⌝ }
+// Whether the words are a state's, and it fits a document of n bytes.
+pub fn is_fit(n: usize, w: &[usize]) -> bool
+    ensures { λ r. ⌜ r ≡ (readable (now (w .entry)) && fit n (stateIn (now (w .entry)))) ⌝ }
 {
-    if w.len() < 137 {
-        return State::new();
+    if !is_readable(w) {
+        return false;
     }
-    let held = held_by(w[5], w[6], w[7]);
-    let indents = indents_in(w);
-    State {
-        place: w[0],
-        line: w[1],
-        marks: Marks {
-            indent: w[2] == 1,
-            value: w[3] == 1,
-            multiline: w[4] == 1,
-        },
-        held,
-        indents,
-        depth: w[8],
-    }
+    fits_in(n, w)
 }
 
 // A mark's word.
@@ -140,7 +144,7 @@ pub fn paste(src: &[usize], at: usize, dst: &mut [usize])
     }
 }
 
-// Writes the slots where indents_in reads them.
+// Writes the slots, two words each, after the nine.
 fn put_indents(indents: [Part; 64], w: &mut [usize])
     requires { ⌜ tokenizerSize ≤ length (now w) ⌝ }
     ensures { λ _. ⌜ now (w .exit) ≡ pasted (partWords indents) 9 (now (w .entry)) ⌝ }
@@ -166,6 +170,33 @@ pub fn store(s: State, words: &mut [usize]) -> bool
     let f = front(s);
     paste(&f, 0, words);
     put_indents(indents, words);
+    true
+}
+
+// Copies the words of a state, with 0 for those of what is not held.
+fn copy_state(src: &[usize], dst: &mut [usize])
+    requires { ⌜ tokenizerSize ≤ length (now src) ⌝ }
+    ensures { λ _. ⌜ now (dst .exit) ≡ pastedIn (heldWords (stateIn (now (src .entry)) .held)) 5 (pastedIn (take tokenizerSize (now (src .entry))) 0 (now (dst .entry))) ⌝ }
+{
+    let held = held_by(src[5], src[6], src[7]);
+    let h = held_words(held);
+    paste(&src[..137], 0, dst);
+    paste(&h, 5, dst);
+}
+
+// Stores at the front of dst the state of src: true; or false, with nothing written, where it is no state, or does not fit a document
+// of n bytes. The state never leaves its words: by value it would be copied more than once.
+pub fn restore(n: usize, src: &[usize], dst: &mut [usize]) -> bool
+    ensures { λ r. ⌜ r ≡ (readable (now (src .entry)) && fit n (stateIn (now (src .entry)))) ⌝ }
+    ensures { λ r. ⌜ now (dst .exit) ≡ cond r (storedIn (stateIn (now (src .entry))) (now (dst .entry))) (now (dst .entry)) ⌝ }
+{
+    if !is_fit(n, src) {
+        return false;
+    }
+    if dst.len() < 137 {
+        return true;
+    }
+    copy_state(src, dst);
     true
 }
 

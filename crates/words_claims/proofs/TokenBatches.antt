@@ -16,7 +16,7 @@ use Rattle.tokenizer_claims.proofs.Claimed as claimed
 use Rattle.tokenizer_words.specs.Words.{wordsOf, stateIn, readable, freshIn}
 use Rattle.batches.specs.Batch.{Taken, taken, takenBatch, batchOf, tokenizing}
 use Rattle.tokenizer_words.specs.Claims.{Slots}
-use Rattle.tokenizer_words.proofs.Loading.{stored-137}
+use Rattle.tokenizer_words.proofs.Storing.{stored-137}
 use Rattle.batches.proofs.Branching.{over, took}
 use Rattle.tokenizer_words.proofs.Slotted.{slotted}
 use Rattle.tokenizer_words.proofs.Claimed.{states-back}

@@ -4,7 +4,7 @@ use native.Mathlib.Omega.{arith}
 use borrow.Author.Tests.{lt-leb, le-leb}
 use Rattle.tokenizer_words.proofs.Pasting.{pasted-room}
 use Rattle.tokenizer_words.proofs.Slots.{owned-64}
-use Rattle.tokenizer_words.proofs.Loading.{stored-137}
+use Rattle.tokenizer_words.proofs.Storing.{stored-137}
 use Rattle.parser_words.specs.ParserWords.{parserStoredIn}
 use Rattle.parser_words.proofs.Sorts.{owned-65, all-written}
 use borrow.Author.Needs.{needs}
