@@ -6,6 +6,7 @@ pub mod Ends
 pub mod Prefix
 pub mod Skipped
 pub mod Rows
+pub mod Wide
 pub mod Scalars
 pub mod Trimmed
 pub mod Unicode

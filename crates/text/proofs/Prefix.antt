@@ -2,13 +2,13 @@
 use Prim.Native.Nat.{ℕ, zero, suc, _+_, _-_, _≤_, _<_}
 use mathlib.Core.Path.{_≡_, refl, sym}
 use mathlib.Core.List.{List, [], _∷_}
-use mathlib.Core.Bool.{Bool, true, false, _&&_, and-false}
+use mathlib.Core.Bool.{Bool, true, false, _&&_, and-false, and-eq-true-iff}
 use native.Mathlib.Numerals.{add-one, sub-one}
 use native.Mathlib.Omega.{arith}
 use lib.Dec.{eqb, leb}
 use lib.ListN.{length, getD, drop, drop-of-length-le}
 use lib.Seq.{drop-cons}
-use borrow.Author.Tests.{eq-eqb, ne-eqb, le-leb, lt-leb}
+use borrow.Author.Tests.{eq-eqb, ne-eqb, le-leb, lt-leb, leb-true}
 use Rattle.text.specs.Bytes.{startsWith}
 use Rattle.text.specs.Utf8.{within, followed}
 
@@ -60,3 +60,9 @@ above low high b h = rw (lt-leb b high h, and-false)
 pub inside : (low high b : ℕ) → low ≤ b → b ≤ high → within low high b ≡ true
 unfolding within
 inside low high b l h = rw (le-leb low b l, le-leb b high h)
+
+pub within-bounds : (low high b : ℕ) → within low high b ≡ true → (low ≤ b) × (b ≤ high)
+unfolding within
+within-bounds low high b e =
+    let h = and-eq-true-iff (leb low b) (leb b high) .0 e in
+    (leb-true low b (h .0), leb-true b high (h .1))

@@ -1,9 +1,12 @@
 -- The rows of `leadOf`, each for the lead bytes between its ends: the rows above it do not hold them.
 use Prim.Native.Nat.{ℕ, _≤_, _<_}
 use mathlib.Core.Path.{_≡_}
+use mathlib.Core.Bool.{true}
 use native.Mathlib.Omega.{arith}
-use Rattle.text.specs.Utf8.{leadOf}
+use Rattle.text.specs.Utf8.{within, leadOf}
+use Rattle.text.specs.declared.utf8.Lead.{Lead}
 use Rattle.text.specs.declared.utf8.Lead.the-variants.{Follow, Bad}
+use Rattle.text.proofs.Cases.{on-cond}
 use Rattle.text.proofs.Prefix.{below, above, inside}
 
 module _ (b : ℕ) where
@@ -64,3 +67,20 @@ module _ (b : ℕ) where
     above 0xF1 0xF3 b (omega arith),
     above 0xF4 0xF4 b (omega arith),
   )
+
+-- what holds of every row, where b is in it, holds of what b leads
+pub each : (P : Lead → Type 0) (b : ℕ) → (within 0x00 0x7F b ≡ true → P (Follow 0 0x80 0xBF))
+    → (within 0xC2 0xDF b ≡ true → P (Follow 1 0x80 0xBF))
+    → (within 0xE0 0xE0 b ≡ true → P (Follow 2 0xA0 0xBF))
+    → (within 0xE1 0xEC b ≡ true → P (Follow 2 0x80 0xBF))
+    → (within 0xED 0xED b ≡ true → P (Follow 2 0x80 0x9F))
+    → (within 0xEE 0xEF b ≡ true → P (Follow 2 0x80 0xBF))
+    → (within 0xF0 0xF0 b ≡ true → P (Follow 3 0x90 0xBF))
+    → (within 0xF1 0xF3 b ≡ true → P (Follow 3 0x80 0xBF))
+    → (within 0xF4 0xF4 b ≡ true → P (Follow 3 0x80 0x8F))
+    → P Bad
+    → P (leadOf b)
+unfolding leadOf
+each P b ascii two e0 e1 ed ee f0 f1 f4 bad =
+    on-cond P _ ascii (λ _. on-cond P _ two (λ _. on-cond P _ e0 (λ _. on-cond P _ e1 (λ _. on-cond P _ ed
+    (λ _. on-cond P _ ee (λ _. on-cond P _ f0 (λ _. on-cond P _ f1 (λ _. on-cond P _ f4 (λ _. bad)))))))))

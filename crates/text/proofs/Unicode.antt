@@ -21,7 +21,7 @@ use Rattle.text.specs.declared.utf8.Lead.{Lead}
 use Rattle.text.specs.declared.utf8.Lead.the-variants.{Follow, Bad}
 use Rattle.text.proofs.Cases.{by-bool}
 use Rattle.text.proofs.Chars.{owes-split}
-use Rattle.text.proofs.Prefix.{above, inside}
+use Rattle.text.proofs.Prefix.{above, inside, within-bounds}
 
 -- Encodings of two, three and four bytes
 
@@ -156,12 +156,6 @@ table : Table 0x80 0x80 rows
 table = (omega arith, (omega arith, (omega arith, (omega arith, (omega arith, (omega arith, (omega arith, (omega arith, omega arith))))))))
 
 -- What the tests of bytes tell
-
-within-bounds : (low high b : ℕ) → within low high b ≡ true → (low ≤ b) × (b ≤ high)
-unfolding within
-within-bounds low high b e =
-    let h = and-eq-true-iff (leb low b) (leb b high) .0 e in
-    (leb-true low b (h .0), leb-true b high (h .1))
 
 -- the n continuations that `followed` finds
 data Followed : ℕ → ℕ → ℕ → List ℕ → Type 0 where

@@ -2,7 +2,8 @@ use crate::bytes::First;
 use crate::bytes::first_of;
 use text_scans::ascii_eights;
 ghost use mathlib.Core.Path.{_≡_};
-ghost use Rattle.text.specs.Utf8.{leadOf, followed, charLen, utf8};
+ghost use lib.Dec.{eqb};
+ghost use Rattle.text.specs.Utf8.{within, leadOf, followed, charLen, utf8};
 
 // What a lead byte says (Table 3-7): how many bytes follow, and the range of the second byte.
 pub enum Lead {
@@ -53,8 +54,8 @@ fn follows(s: &[u8], more: usize, low: u8, high: u8) -> bool
     true
 }
 
-// How many bytes the character has that s begins with; 0 where it begins with no well-formed one.
-pub fn char_len(s: &[u8]) -> usize
+// What char_len answers, by the table.
+fn char_len_by_table(s: &[u8]) -> usize
     ensures { λ r. ⌜ r ≡ charLen (now (s .entry)) ⌝ }
 {
     let First::Byte(b) = first_of(s) else {
@@ -68,6 +69,49 @@ pub fn char_len(s: &[u8]) -> usize
     } else {
         0
     }
+}
+
+// Whether b is from low to high. Here and below `&` is no jump, which `&&` would be.
+fn is_within(low: u8, high: u8, b: u8) -> bool
+    ensures { λ r. ⌜ r ≡ within low high b ⌝ }
+{
+    (low <= b) & (b <= high)
+}
+
+// Whether s begins with a character of two bytes.
+fn is_two(s: &[u8]) -> bool
+    ensures { λ r. ⌜ r ≡ eqb (charLen (now (s .entry))) 2 ⌝ }
+{
+    if s.len() < 2 {
+        return false;
+    }
+    is_within(0xC2, 0xDF, s[0]) & is_within(0x80, 0xBF, s[1])
+}
+
+// Whether s begins with a character of three bytes. After E0 and ED fewer second bytes are allowed.
+fn is_three(s: &[u8]) -> bool
+    ensures { λ r. ⌜ r ≡ eqb (charLen (now (s .entry))) 3 ⌝ }
+{
+    if s.len() < 3 {
+        return false;
+    }
+    let low = if s[0] == 0xE0 { 0xA0 } else { 0x80 };
+    let high = if s[0] == 0xED { 0x9F } else { 0xBF };
+    is_within(0xE0, 0xEF, s[0]) & is_within(low, high, s[1]) & is_within(0x80, 0xBF, s[2])
+}
+
+// How many bytes the character has that s begins with; 0 where it begins with no well-formed one. Most letters beyond
+// ASCII have two or three bytes, and the table's jump is slow: for these there are ways past it.
+pub fn char_len(s: &[u8]) -> usize
+    ensures { λ r. ⌜ r ≡ charLen (now (s .entry)) ⌝ }
+{
+    if is_two(s) {
+        return 2;
+    }
+    if is_three(s) {
+        return 3;
+    }
+    char_len_by_table(s)
 }
 
 // A byte of the table's first row is a character by itself: for these there is a short way, past the table, and a
