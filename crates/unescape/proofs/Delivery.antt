@@ -19,7 +19,7 @@ use Rattle.unescape_pieces.specs.declared.pieces.Spot.{Spot}
 use Rattle.unescape_pieces.specs.declared.pieces.Spot.the-variants.{Quotes, FirstLine, LaterLine, Break}
 use Rattle.unescape_pieces.specs.declared.source.Style.{Style}
 use Rattle.unescape_pieces.specs.declared.source.Start.the-variants.{Plain as Whole, Pieces}
-use Rattle.unescape_pieces.proofs.Starts.{part-means, pieces-mean, pieces-lie}
+use Rattle.unescape_pieces.proofs.Starts.{part-means, pieces-mean}
 use Rattle.unescape.specs.Walk.{measuredOf, WrittenFits, bufferAfter}
 use Rattle.unescape.specs.Unescape.{Unescaped, keptBuffer, refusal, delivered}
 use Rattle.unescape.specs.declared.Answer.{Answer}
@@ -137,50 +137,51 @@ module _ (k from line : ℕ) (o : List ℕ) where
   refuses (code a e) x q = let z : _≡_ {A = ℕ} 0 1 = cc in absurd (omega arith)
   refuses {n} (refused r) x q = let y : n ≡ r = cc in rw y
 
-parted : (a e from line : ℕ) (o : List ℕ) → delivered (part a e) from line o ≡ keptBuffer (Plain (record { start = from + a; end = from + e })) o
-unfolding delivered
-parted a e from line o = refl
-
 -- what is promised of an answer and a buffer
 pub promised : {u v : Unescaped} → u ≡ v → (v .answer ≡ u .answer) × (v .buffer ≡ u .buffer)
 promised q = (ap (λ (x : Unescaped). x .answer) (sym q), ap (λ (x : Unescaped). x .buffer) (sym q))
 
--- A text that is read, and what is answered of it
+-- A text by what its reading begins with: its plain part, or its pieces
+
+module _ (style : Style) (s indent o : List ℕ) (from line : ℕ) where
+  pub plain-delivered : {a e : ℕ} → startOf style s ≡ Whole a e
+      → delivered (meaning style s indent) from line o ≡ keptBuffer (Plain (record { start = from + a; end = from + e })) o
+  unfolding delivered
+  plain-delivered q = rw (part-means style s indent q)
+
+  pub pieces-delivered : {n : ℕ} {spot : Spot} → startOf style s ≡ Pieces n spot
+      → delivered (meaning style s indent) from line o ≡ delivered (meaningFrom spot indent (drop n s) n) from line o
+  pieces-delivered q = ap (λ m. delivered m from line o) (pieces-mean style s indent q)
+
+-- The pieces from a place on, and what is answered of them
 
 abbrev pub Answered : Unescaped → Answer → List ℕ → Type 0
 Answered u a o = (a ≡ u .answer) × (o ≡ u .buffer)
 
-module _ (style : Style) (s indent o : List ℕ) (from line : ℕ) where
+module _ (spot : Spot) (s indent o : List ℕ) (n from line : ℕ) (within : n ≤ length s) where
+  abbrev meant : Meaning
+  meant = meaningFrom spot indent (drop n s) n
+
   abbrev result : Unescaped
-  result = delivered (meaning style s indent) from line o
+  result = delivered meant from line o
 
-  pub plain-answered : {a e : ℕ} → startOf style s ≡ Whole a e → Answered result (Plain (record { start = from + a; end = from + e })) o
-  plain-answered {a} {e} q = promised (ap (λ m. delivered m from line o) (part-means style s indent q) ∙ parted a e from line o)
+  ends : Ends (length s) meant
+  ends = pieces-end spot indent s n within
 
-  module _ (n : ℕ) (spot : Spot) (q : startOf style s ≡ Pieces n spot) where
-    abbrev meant : Meaning
-    meant = meaningFrom spot indent (drop n s) n
+  pub short-answered : {k : ℕ} → Length k ≡ measuredOf meant → length o < k → Answered result (refusal 14 line) o
+  short-answered r h = promised (too-short (length s) from line o meant ends r h)
 
-    ends : Ends (length s) meant
-    ends = pieces-end spot indent s n (pieces-lie style s q)
+  pub text-fits : {k : ℕ} → Length k ≡ measuredOf meant → k ≤ length o → WrittenFits meant (length o)
+  text-fits r h = enough (length s) from line o meant ends r h
 
-    by : {u : Unescaped} → delivered meant from line o ≡ u → Answered result (u .answer) (u .buffer)
-    by e = promised (ap (λ m. delivered m from line o) (pieces-mean style s indent q) ∙ e)
+  pub text-answered : {k : ℕ} → Length k ≡ measuredOf meant → k ≤ length o → Answered result (Written k) (bufferAfter meant o)
+  text-answered r h = promised (wrote (length s) from line o meant ends r h)
 
-    pub short-answered : {k : ℕ} → Length k ≡ measuredOf meant → length o < k → Answered result (refusal 14 line) o
-    short-answered r h = by (too-short (length s) from line o meant ends r h)
+  pub code-lies : {a e : ℕ} → CodeAt a e ≡ measuredOf meant → (a ≤ length s) × (e ≤ length s)
+  code-lies r = code-ends (length s) meant ends r
 
-    pub text-fits : {k : ℕ} → Length k ≡ measuredOf meant → k ≤ length o → WrittenFits meant (length o)
-    text-fits r h = enough (length s) from line o meant ends r h
+  pub code-answered : {a e : ℕ} → CodeAt a e ≡ measuredOf meant → Answered result (Refused 8 line (record { start = from + a; end = from + e })) o
+  code-answered r = promised (shows (length s) from line o meant ends r)
 
-    pub text-answered : {k : ℕ} → Length k ≡ measuredOf meant → k ≤ length o → Answered result (Written k) (bufferAfter meant o)
-    text-answered r h = by (wrote (length s) from line o meant ends r h)
-
-    pub code-lies : {a e : ℕ} → CodeAt a e ≡ measuredOf meant → (a ≤ length s) × (e ≤ length s)
-    code-lies r = code-ends (length s) meant ends r
-
-    pub code-answered : {a e : ℕ} → CodeAt a e ≡ measuredOf meant → Answered result (Refused 8 line (record { start = from + a; end = from + e })) o
-    code-answered r = by (shows (length s) from line o meant ends r)
-
-    pub refusal-answered : {k : ℕ} → RefusedBy k ≡ measuredOf meant → Answered result (refusal k line) o
-    refusal-answered r = by (refuses (length s) from line o meant ends r)
+  pub refusal-answered : {k : ℕ} → RefusedBy k ≡ measuredOf meant → Answered result (refusal k line) o
+  refusal-answered r = promised (refuses (length s) from line o meant ends r)

@@ -7,7 +7,7 @@ use mathlib.Core.Bool.{true, false, _||_}
 use native.Mathlib.Nat.{zero-add}
 use native.Mathlib.Omega.{arith}
 use lib.Dec.{leb, ltb}
-use lib.ListN.{length}
+use lib.ListN.{length, drop}
 use borrow.Author.Tests.{le-ltb, ltb-false}
 use Rattle.text.proofs.Cases.{by-bool, clash}
 use Rattle.tokenizer.specs.Token.{tokenValues, lineOf}
@@ -25,11 +25,16 @@ use Rattle.tokenizer.specs.declared.token.Token.the-variants.{
   NoValue,
 }
 use Rattle.unescape_pieces.specs.Meaning.{Meaning, part, bytes, code, refused, meaning}
+use Rattle.unescape_pieces.specs.Pieces.{startOf, meaningFrom}
 use Rattle.unescape_pieces.specs.Source.{sourceOf}
+use Rattle.unescape_pieces.specs.declared.pieces.Spot.{Spot}
 use Rattle.unescape_pieces.specs.declared.source.Style.{Style}
+use Rattle.unescape_pieces.specs.declared.source.Start.the-variants.{Plain as Whole, Pieces}
 use Rattle.unescape_pieces.proofs.Proper.{Proper, meaning-proper}
 use Rattle.unescape.specs.Unescape.{keptBuffer, refusal, delivered}
 use Rattle.unescape.specs.Texts.{styleOf, unescapeTextOf, unescapedFrom, KindsRead, TokensByText}
+use Rattle.unescape.specs.declared.Answer.the-variants.{Plain}
+use Rattle.unescape.proofs.Delivery.{plain-delivered, pieces-delivered}
 use Rattle.unescape.proofs.Ruling.{sound-length, ruled}
 
 pub kinds-read : KindsRead
@@ -50,9 +55,17 @@ module _ (r : Style) (s i : List ℕ) (l : ℕ) (o : List ℕ) where
   unfolding unescapeTextOf
   text-over e = rw e
 
-  pub text-within : (ltb 16777216 (length s) || ltb 16777216 (length i)) ≡ false → unescapeTextOf r s i l o ≡ delivered (meaning r s i) 0 l o
-  unfolding unescapeTextOf
-  text-within e = rw e
+  module _ (e : (ltb 16777216 (length s) || ltb 16777216 (length i)) ≡ false) where
+    pub text-within : unescapeTextOf r s i l o ≡ delivered (meaning r s i) 0 l o
+    unfolding unescapeTextOf
+    text-within = rw e
+
+    pub text-plain : {a z : ℕ} → startOf r s ≡ Whole a z → unescapeTextOf r s i l o ≡ keptBuffer (Plain (record { start = a; end = z })) o
+    text-plain {a} {z} q = text-within ∙ plain-delivered r s i o 0 l q ∙ rw (zero-add a, zero-add z)
+
+    pub text-pieces : {n : ℕ} {spot : Spot} → startOf r s ≡ Pieces n spot
+        → unescapeTextOf r s i l o ≡ delivered (meaningFrom spot i (drop n s) n) 0 l o
+    text-pieces q = text-within ∙ pieces-delivered r s i o 0 l q
 
 -- there the text is within the limit
 pub text-fits : (s i : List ℕ) → (ltb 16777216 (length s) || ltb 16777216 (length i)) ≡ false → length s ≤ 16777216

@@ -1,9 +1,12 @@
 // Unescaping given bytes: for a caller that has a text of its own and knows how it is read.
 use crate::Answer;
-use crate::tokens::deliver;
 use crate::tokens::refuse;
+use crate::tokens::rewrite;
+use text::Part;
 use tokenizer::State;
+use unescape_pieces::Start;
 use unescape_pieces::Style;
+use unescape_pieces::start_of;
 ghost use mathlib.Core.Path.{_≡_};
 ghost use Rattle.unescape.specs.Texts.{styleOf, unescapeTextOf};
 
@@ -29,5 +32,8 @@ pub fn unescape_text(style: Style, s: &[u8], indent: &[u8], line: usize, out: &m
     if (State::MAX_DOCUMENT < s.len()) | (State::MAX_DOCUMENT < indent.len()) {
         return refuse(12, 0);
     }
-    deliver(style, s, indent, 0, line, out)
+    match start_of(style, s) {
+        Start::Plain(start, end) => Answer::Plain(Part { start, end }),
+        Start::Pieces(at, spot) => rewrite(at, spot, s, indent, 0, line, out),
+    }
 }

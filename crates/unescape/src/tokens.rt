@@ -6,6 +6,7 @@ use crate::walk::write;
 use text::Part;
 use tokenizer::State;
 use tokenizer::Token;
+use unescape_pieces::Spot;
 use unescape_pieces::Start;
 use unescape_pieces::Style;
 use unescape_pieces::is_sound;
@@ -13,10 +14,10 @@ use unescape_pieces::source_of;
 use unescape_pieces::start_of;
 ghost use mathlib.Core.Path.{_≡_};
 ghost use Prim.Native.Nat.{_+_, _≤_};
-ghost use lib.ListN.{length};
+ghost use lib.ListN.{length, drop};
 ghost use Rattle.text.specs.Numbers.{maxDocument};
 ghost use Rattle.unescape_pieces.specs.Meaning.{meaning};
-ghost use Rattle.unescape_pieces.specs.Pieces.{startOf};
+ghost use Rattle.unescape_pieces.specs.Pieces.{startOf, meaningFrom};
 ghost use Rattle.unescape.specs.Unescape.{refusal, delivered, unescapeOf, plainOf};
 ghost use Rattle.unescape.specs.Walk.{plainBy};
 
@@ -27,7 +28,43 @@ pub(crate) fn refuse(number: usize, line: usize) -> Answer
     Answer::Refused(number, line, Part { start: 0, end: 0 })
 }
 
-// A text that starts at `from`, as it is read. It is measured before it is written, so that a refusal leaves the buffer alone.
+// The pieces of a text that starts at `from`, from `at` on. They are measured before they are written, so that a refusal
+// leaves the buffer alone. Called from two places, this stays out of the compiled way of a plain text, which most are.
+pub(crate) fn rewrite(
+    at: usize,
+    spot: Spot,
+    s: &[u8],
+    indent: &[u8],
+    from: usize,
+    line: usize,
+    out: &mut [u8],
+) -> Answer
+    requires { ⌜ from + length (now s) ≤ maxDocument ⌝ }
+    requires { ⌜ at ≤ length (now s) ⌝ }
+    ensures { λ r. ⌜ r ≡ delivered (meaningFrom spot (now (indent .entry)) (drop at (now (s .entry))) at) from line (now (out .entry)) .answer ⌝ }
+    ensures { λ _. ⌜ now (out .exit) ≡ delivered (meaningFrom spot (now (indent .entry)) (drop at (now (s .entry))) at) from line (now (out .entry)) .buffer ⌝ }
+{
+    match measure(at, spot, indent, s) {
+        Measured::Length(n) => {
+            if out.len() < n {
+                return refuse(14, line);
+            }
+            write(at, spot, indent, s, out);
+            Answer::Written(n)
+        }
+        Measured::Code(a, e) => Answer::Refused(
+            8,
+            line,
+            Part {
+                start: from + a,
+                end: from + e,
+            },
+        ),
+        Measured::Refused(n) => refuse(n, line),
+    }
+}
+
+// A text that starts at `from`, as it is read.
 pub(crate) fn deliver(
     style: Style,
     s: &[u8],
@@ -45,24 +82,7 @@ pub(crate) fn deliver(
             start: from + a,
             end: from + e,
         }),
-        Start::Pieces(at, spot) => match measure(at, spot, indent, s) {
-            Measured::Length(n) => {
-                if out.len() < n {
-                    return refuse(14, line);
-                }
-                write(at, spot, indent, s, out);
-                Answer::Written(n)
-            }
-            Measured::Code(a, e) => Answer::Refused(
-                8,
-                line,
-                Part {
-                    start: from + a,
-                    end: from + e,
-                },
-            ),
-            Measured::Refused(n) => refuse(n, line),
-        },
+        Start::Pieces(at, spot) => rewrite(at, spot, s, indent, from, line, out),
     }
 }
 
