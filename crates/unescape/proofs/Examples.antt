@@ -12,8 +12,11 @@ use Rattle.tokenizer.specs.declared.token.Token.{Token}
 use Rattle.tokenizer.specs.declared.token.Token.the-variants.{Value, MultilineValue}
 use Rattle.unescape_pieces.specs.Meaning.{meaning}
 use Rattle.unescape_pieces.specs.Source.{sourceOf, sound}
+use Rattle.unescape_pieces.specs.declared.source.Style.{Style}
+use Rattle.unescape_pieces.specs.declared.source.Style.the-variants.{AsIs, Entry, Block}
 use Rattle.unescape_pieces.proofs.Examples.{rules}
 use Rattle.unescape.specs.Unescape.{Unescaped, delivered, unescapeOf}
+use Rattle.unescape.specs.Texts.{styleOf, unescapeTextOf}
 use Rattle.unescape.specs.declared.Answer.the-variants.{Plain, Written, Refused}
 
 abbrev pub part : ℕ → ℕ → Part
@@ -25,7 +28,7 @@ value s = unescapeOf s (Value 1 (part 0 (length s))) (ascii "......")
 
 -- what computing an unescaping unfolds
 unescaped : List ℕ → Token → List ℕ → Unescaped
-unfolding rules owes utf8 lineOf meaning sourceOf sound delivered unescapeOf
+unfolding rules owes utf8 lineOf meaning sourceOf sound delivered unescapeOf unescapeTextOf
 unescaped d t o = unescapeOf d t o
 
 -- `"\{0010FFFF}"` is written
@@ -75,3 +78,27 @@ plain-part = refl
 unfit : unescapeOf (ascii "a") (Value 2 (part 0 2)) (ascii ".") ≡ record { answer = Refused 13 2 (part 0 0); buffer = ascii "." }
 unfolding unescaped
 unfit = refl
+
+-- The port's own: a given text with an indentation of two spaces, on line 5 of no document
+abbrev given : Style → List ℕ → List ℕ → Unescaped
+given r s o = unescapeTextOf r s (ascii "  ") 5 o
+
+-- `"ab"` is plain, and its place is counted from the text's start
+given-plain : given Entry (ascii "\"ab\"") [] ≡ record { answer = Plain (part 1 3); buffer = [] }
+unfolding unescaped
+given-plain = refl
+
+-- `"a\q"` is 8 on the given line, and shows `\q`
+given-code : given Entry (ascii "\"a\\q\"") (ascii "..") ≡ record { answer = Refused 8 5 (part 2 4); buffer = ascii ".." }
+unfolding unescaped
+given-code = refl
+
+-- `x` LF `  y` loses the indentation
+given-lines : given Block (ascii "x\n  y") (ascii "....") ≡ record { answer = Written 3; buffer = ascii "x\ny." }
+unfolding unescaped
+given-lines = refl
+
+-- a key, 6, and a value, 7, are read with their escapes, a multiline value, 9, by its lines, and its hint, 8, as it stands
+kinds : (styleOf 6 ≡ Entry) × (styleOf 7 ≡ Entry) × (styleOf 8 ≡ AsIs) × (styleOf 9 ≡ Block)
+unfolding styleOf
+kinds = (refl, refl, refl, refl)

@@ -1,10 +1,7 @@
-pub mod Valid
 pub mod Filling
 pub mod Turns
 pub mod Writing
 pub mod Delivery
 pub mod Ruling
 pub mod Examples
-pub mod Entries
-pub mod Shorter
 pub mod Given

@@ -1,4 +1,3 @@
 pub mod Unescape
 pub mod Walk
 pub mod Texts
-pub mod Claims

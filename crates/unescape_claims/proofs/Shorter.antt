@@ -32,11 +32,11 @@ use Rattle.unescape_pieces.specs.Meaning.{
 use Rattle.unescape_pieces.specs.Source.{sourceOf, sound}
 use Rattle.unescape_pieces.specs.declared.source.Style.{Style}
 use Rattle.unescape_pieces.specs.declared.source.Style.the-variants.{AsIs, Entry, Block}
 use Rattle.unescape.specs.Unescape.{Unescaped, delivered, unescapeOf}
 use Rattle.unescape.specs.declared.Answer.{Answer}
 use Rattle.unescape.specs.declared.Answer.the-variants.{Plain, Written, Refused}
-use Rattle.unescape.specs.Claims.{textSize, Shorter, Enough, Met}
-use Rattle.unescape.proofs.Entries.{AtMost, raised, entry-most}
+use Rattle.unescape_claims.specs.Claims.{textSize, Shorter, Enough, Met}
+use Rattle.unescape_claims.proofs.Entries.{AtMost, raised, entry-most}
 
 -- The lines of a multiline value
 

@@ -50,7 +50,7 @@ use Rattle.unescape_pieces.specs.Meaning.{
 }
 use Rattle.unescape_pieces.specs.declared.source.Style.the-variants.{AsIs, Entry, Block}
 use Rattle.unescape_pieces.proofs.Escapes.{simple}
-use Rattle.unescape.specs.Claims.{ValidIn, Valid}
+use Rattle.unescape_claims.specs.Claims.{ValidIn, Valid}
 
 utf8-nil : utf8 [] ≡ true
 unfolding utf8 owes

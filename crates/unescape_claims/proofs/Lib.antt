@@ -1,0 +1,4 @@
+pub mod Valid
+pub mod Entries
+pub mod Shorter
+pub mod ByText

@@ -1,0 +1,1 @@
+// Theorems about unescaping: see specs/Claims and specs/ByText.
