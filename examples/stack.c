@@ -1,6 +1,7 @@
 /*
  * Measures how many bytes of stack each function of the library uses on a layout: it is called in
- * a thread whose stack was painted before. Fails where one uses more than README says. Build it, in the repository's folder, with
+ * a thread whose stack was painted before. Fails where one uses more than README says. Build it, in
+ * the repository's folder, with
  *
  *     cc -std=c11 -Iinclude -o target/stack examples/stack.c target/staticlib/libabi.a -lpthread
  */
