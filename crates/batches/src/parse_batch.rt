@@ -15,7 +15,7 @@ ghost use Rattle.batches.specs.Batch.{parseBatchOf};
 ghost use Rattle.step_words.specs.Stepping.{stepIn};
 ghost use Rattle.step_words.specs.declared.step.Layer.the-variants.{Parser};
 
-// Puts the parser's state in `state` in the words: true; or false, with nothing written, where it is no fit state of n bytes.
+// restore_parser with an array, whose length its type tells.
 fn put_parser(n: usize, state: &[usize], words: &mut [usize; 213]) -> bool
     ensures { λ r. ⌜ r ≡ (parserReadable (now (state .entry)) && fit n (parserIn (now (state .entry)) .tokenizer)) ⌝ }
     ensures { λ r. ⌜ now (words .exit) ≡ cond r (parserStoredIn (parserIn (now (state .entry))) (now (words .entry))) (now (words .entry)) ⌝ }

@@ -12,7 +12,7 @@ ghost use Rattle.tokenizer.specs.Step.{fit};
 ghost use Rattle.tokenizer_words.specs.Words.{readable, stateIn, storedIn};
 ghost use Rattle.batches.specs.Batch.{batchOf};
 
-// Puts the tokenizer's state in `state` in the words: true; or false, with nothing written, where it is no fit state of n bytes.
+// restore with an array, whose length its type tells.
 fn put_tokenizer(n: usize, state: &[usize], words: &mut [usize; 213]) -> bool
     ensures { λ r. ⌜ r ≡ (readable (now (state .entry)) && fit n (stateIn (now (state .entry)))) ⌝ }
     ensures { λ r. ⌜ now (words .exit) ≡ cond r (storedIn (stateIn (now (state .entry))) (now (words .entry))) (now (words .entry)) ⌝ }
