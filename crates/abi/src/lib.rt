@@ -4,7 +4,7 @@ use text::Dropped;
 ghost use mathlib.Core.Path.{_≡_};
 ghost use lib.Dec.{leb};
 ghost use lib.ListN.{length};
-ghost use Rattle.text.specs.Utf8.{utf8};
+ghost use Rattle.utf8.specs.Utf8.{utf8};
 ghost use Rattle.text.specs.Trimming.{dropped, trimmed};
 ghost use Rattle.tokenizer_words.specs.Words.{tokenizerSize, freshIn};
 ghost use Rattle.batches.specs.Batch.{batchOf};
@@ -31,7 +31,7 @@ pub extern "C" fn conl_version() -> usize
 pub extern "C" fn conl_is_utf8(s: &[u8]) -> bool
     ensures { λ r. ⌜ r ≡ utf8 (now (s .entry)) ⌝ }
 {
-    text::is_utf8(s)
+    utf8::is_utf8(s)
 }
 
 fn which(breaks: bool) -> Dropped

@@ -9,7 +9,7 @@ use native.Mathlib.Nat.{add-assoc, zero-add}
 use lib.Dec.{leb}
 use lib.ListN.{length, drop, length-append, length-take}
 use borrow.Author.Tests.{le-ltb, le-leb}
-use Rattle.text.specs.Utf8.{utf8, owes}
+use Rattle.utf8.specs.Utf8.{utf8, owes}
 use Rattle.text.specs.declared.bytes.Part.{Part}
 use Rattle.text.proofs.Cases.{by-bool}
 use Rattle.tokenizer.specs.Token.{lineOf}

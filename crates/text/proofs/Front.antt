@@ -10,9 +10,7 @@ use lib.ListN.{length, getD, drop, take, length-drop}
 use lib.Seq.{take-all}
 use borrow.Author.Tests.{ne-eqb}
 use Rattle.text.specs.Bytes.{isBreak, firstOf, breakSize}
-use Rattle.text.specs.Utf8.{leadOf, followed, charLen}
 use Rattle.text.specs.declared.bytes.First.the-variants.{Byte, Nothing}
-use Rattle.text.specs.declared.utf8.Lead.the-variants.{Follow, Bad}
 use Rattle.text.proofs.Cases.{on-cond}
 
 pub first : (s : List ℕ) → 0 < length s → firstOf s ≡ Byte (getD s 0 0)
@@ -85,19 +83,3 @@ pub break-pos : (b : ℕ) (r : List ℕ) → isBreak b ≡ true → 0 < breakSiz
 unfolding breakSize
 break-pos b [] e = rw e (omega arith)
 break-pos b (c ∷ r) e = rw e (on-cond (λ n. 0 < n) (eqb b 13 && eqb c 10) (λ t. omega arith) (λ t. omega arith))
-
--- The character that a text begins with, b being its first byte.
-pub no-char : (s : List ℕ) → firstOf s ≡ Nothing → charLen s ≡ 0
-unfolding firstOf charLen
-no-char s e = rw (empty s e)
-
-pub bad-lead : (s : List ℕ) (b : ℕ) → firstOf s ≡ Byte b → leadOf b ≡ Bad → charLen s ≡ 0
-unfolding firstOf charLen
-bad-lead [] b e f = refl
-bad-lead (a ∷ r) b e f = let q : a ≡ b = cc in rw (q, f)
-
-pub good-lead : (s : List ℕ) (b n low high : ℕ) → firstOf s ≡ Byte b → leadOf b ≡ Follow n low high
-    → charLen s ≡ cond (followed n low high (drop 1 s)) (suc n) 0
-unfolding firstOf charLen
-good-lead [] b n low high e f = let z : _≡_ {A = ℕ} 0 1 = cc in absurd (omega arith)
-good-lead (a ∷ r) b n low high e f = let q : a ≡ b = cc in rw (q, f)

@@ -1,14 +1,8 @@
 pub mod Cases
-pub mod Chars
 pub mod Front
 pub mod Scan
 pub mod Ends
 pub mod Prefix
 pub mod Skipped
-pub mod Rows
-pub mod Wide
-pub mod Scalars
 pub mod Trimmed
-pub mod Unicode
-pub mod Joins
 pub mod Examples

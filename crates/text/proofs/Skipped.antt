@@ -6,16 +6,14 @@ use mathlib.Core.Bool.{true}
 use native.Mathlib.Nat.{zero-add, min-eq-right}
 use native.Mathlib.Omega.{arith}
 use lib.ListN.{length, getD, drop}
-use borrow.Author.Tests.{eqb-true, ltb-true}
+use borrow.Author.Tests.{eqb-true}
 use Rattle.text.specs.Bytes.{isBlank, countWhile, startsWith}
 use Rattle.text.specs.Trimming.{dropped}
-use Rattle.text.specs.Utf8.{utf8}
-use Rattle.text_scans.specs.Eights.{eights, spaceAt, asciiAt, sameAt}
+use Rattle.text_scans.specs.Eights.{eights, spaceAt, sameAt}
 use Rattle.text.specs.declared.trimming.Dropped.{Dropped}
 use Rattle.text.specs.declared.trimming.Dropped.the-variants.{Blanks, BlanksAndBreaks}
 use Rattle.text_scans.proofs.Passing.{along}
 use Rattle.text.proofs.Scan.{more}
-use Rattle.text.proofs.Chars.{at-char, at-ascii}
 use Rattle.text.proofs.Prefix.{same}
 
 -- each kind of trimming drops spaces
@@ -29,11 +27,6 @@ pub spaces : (which : Dropped) (s : List ℕ) (r : ℕ) → r ≡ eights (spaceA
 spaces which s r =
     along (spaceAt s) (length s) (λ i. countWhile (dropped which) s ≡ i + countWhile (dropped which) (drop i s)) (sym (zero-add _))
     (λ i l e h. h ∙ more (dropped which) s i l (rw (eqb-true (getD s i 0) 32 e) (space which))) r
-
-pub ascii : (s : List ℕ) (r : ℕ) → r ≡ eights (asciiAt s) (length s) → (r ≤ length s) × (utf8 s ≡ utf8 (drop r s))
-ascii s r =
-    along (asciiAt s) (length s) (λ i. utf8 s ≡ utf8 (drop i s)) refl
-    (λ i l e h. h ∙ at-char s i 1 (at-ascii s i l (ltb-true (getD s i 0) 0x80 e)) l (λ z. absurd (omega (arith, z)))) r
 
 pub common : (p s : List ℕ) (r : ℕ) → length p ≤ length s → r ≡ eights (sameAt s p) (min (length s) (length p))
     → (r ≤ length p) × (startsWith p s ≡ startsWith (drop r p) (drop r s))

@@ -5,7 +5,7 @@ use mathlib.Core.List.{List, [], _∷_}
 use Rattle.text.specs.Ascii.{ascii}
 use Rattle.text.specs.Bytes.{isBlank, isBreak, breakSize, countWhile, startsWith}
 use Rattle.text.specs.Trimming.{dropped, keptEnd, trimmed}
-use Rattle.text.specs.Utf8.{within, leadOf, owes, utf8}
+use Rattle.utf8.specs.Utf8.{within, leadOf, owes, utf8}
 use Rattle.text.specs.declared.bytes.Part.{Part}
 use Rattle.tokenizer_scans.specs.Scans.{
   blanks,

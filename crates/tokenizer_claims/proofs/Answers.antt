@@ -7,7 +7,7 @@ use mathlib.Core.Bool.{false}
 use native.Mathlib.Omega.{arith}
 use lib.ListN.{length, take, drop, length-drop}
 use lib.Seq.{drop-drop}
-use Rattle.text.specs.Utf8.{utf8}
+use Rattle.utf8.specs.Utf8.{utf8}
 use Rattle.text.specs.Bytes.{lineEnd, shiftedBy}
 use Rattle.text.specs.Trimming.{dropped, trimmed}
 use Rattle.text.specs.declared.bytes.Part.{Part}

@@ -10,13 +10,14 @@ use lib.ListN.{length, take, drop, length-append, length-drop, take-append-drop}
 use lib.Seq.{take-append-le, drop-append-le, drop-drop, drop-length}
 use Rattle.text.specs.Bytes.{countWhile, shiftedBy}
 use Rattle.text.specs.Trimming.{dropped, trimmed}
-use Rattle.text.specs.Utf8.{owes, utf8}
+use Rattle.utf8.specs.Utf8.{owes, utf8}
 use Rattle.text.specs.declared.bytes.Part.{Part}
 use Rattle.text.specs.declared.trimming.Dropped.{Dropped}
 use Rattle.text.specs.declared.trimming.Dropped.the-variants.{Blanks}
 use Rattle.text.proofs.Cases.{by-bool}
 use Rattle.text.proofs.Scan.{count-le}
-use Rattle.text.proofs.Trimmed.{utf8-start, dropped-ascii, trimmed-le, trimmed-utf8}
+use Rattle.text.proofs.Trimmed.{trimmed-le}
+use Rattle.utf8.proofs.Trimmed.{utf8-start, dropped-ascii, trimmed-utf8}
 use Rattle.tokenizer_scans.specs.Scans.{blanks}
 use Rattle.tokenizer.specs.Step.{bytesOf, noPart}
 use Rattle.tokenizer_claims.specs.Claims.{Within, Text}

@@ -4,7 +4,7 @@ use mathlib.Core.Path.{_≡_}
 use mathlib.Core.List.{List, [], _∷_}
 use mathlib.Core.Bool.{true}
 use lib.ListN.{length, drop}
-use Rattle.text.specs.Utf8.{utf8}
+use Rattle.utf8.specs.Utf8.{utf8}
 use Rattle.text.specs.Numbers.{maxDocument, invalidUtf8, tooManyOpen}
 use Rattle.text.specs.declared.bytes.Part.{Part}
 use Rattle.tokenizer_scans.specs.Scans.{blanks}

@@ -6,7 +6,7 @@ use mathlib.Core.Bool.{Bool, true, false}
 use Rattle.text.specs.Ascii.{ascii}
 use Rattle.text.specs.Bytes.{isBlank, isBreak, breakSize, countWhile, startsWith}
 use Rattle.text.specs.Trimming.{dropped, keptEnd, trimmed}
-use Rattle.text.specs.Utf8.{within, leadOf, owes, utf8}
+use Rattle.utf8.specs.Utf8.{within, leadOf, owes, utf8}
 use Rattle.text.specs.declared.bytes.Part.{Part}
 use Rattle.tokenizer_scans.specs.Scans.{
   relationOf,

@@ -10,7 +10,7 @@ use lib.Dec.{eqb}
 use lib.ListN.{length, take, drop, length-take}
 use Rattle.text.specs.Bytes.{isBreak, firstOf, breakSize}
 use Rattle.text.specs.Trimming.{dropped, trimmed}
-use Rattle.text.specs.Utf8.{utf8}
+use Rattle.utf8.specs.Utf8.{utf8}
 use Rattle.text.specs.declared.bytes.First.the-variants.{Byte, Nothing}
 use Rattle.text.specs.declared.bytes.Part.{Part}
 use Rattle.text.specs.declared.trimming.Dropped.{Dropped}

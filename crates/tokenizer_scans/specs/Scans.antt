@@ -9,7 +9,7 @@ use lib.Dec.{eqb}
 use Rattle.text.specs.Ascii.{ascii}
 use Rattle.text.specs.Bytes.{isBreak, countWhile, lineEnd, startsWith}
 use Rattle.text.specs.Trimming.{dropped, trimmed}
-use Rattle.text.specs.Utf8.{utf8}
+use Rattle.utf8.specs.Utf8.{utf8}
 use Rattle.text.specs.declared.trimming.Dropped.{Dropped}
 use Rattle.text.specs.declared.trimming.Dropped.the-variants.{Blanks, BlanksAndBreaks}
 use Rattle.tokenizer_scans.specs.declared.readers.Relation.{Relation}

@@ -107,7 +107,7 @@ pub enum Text {
 pub fn checked(which: Dropped, s: &[u8]) -> Text
     ensures { λ r. ⌜ r ≡ checkedOf which (now (s .entry)) ⌝ }
 {
-    if text::is_utf8(s) {
+    if utf8::is_utf8(s) {
         Text::Good(text::trim(which, s))
     } else {
         Text::Bad

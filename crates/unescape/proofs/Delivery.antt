@@ -7,11 +7,11 @@ use native.Mathlib.Omega.{arith}
 use lib.Dec.{eqb, leb, ltb}
 use lib.ListN.{length, take, drop, length-drop}
 use borrow.Author.Tests.{le-leb, lt-leb, lt-ltb, le-ltb, leb-true}
-use Rattle.text.specs.Scalar.{isScalar, encoding}
-use Rattle.text.specs.Utf8.{charLen, utf8}
+use Rattle.utf8.specs.Scalar.{isScalar, encoding}
+use Rattle.utf8.specs.Utf8.{charLen, utf8}
 use Rattle.text.specs.declared.bytes.Part.{Part}
 use Rattle.text.proofs.Cases.{on-cond, by-bool, and-left, and-right}
-use Rattle.text.proofs.Chars.{charLen-le}
+use Rattle.utf8.proofs.Chars.{charLen-le}
 use Rattle.unescape_pieces.specs.Codes.{codeOf, simpleOf}
 use Rattle.unescape_pieces.specs.Meaning.{Meaning, part, bytes, code, refused, written, Mode, plain, escape, brace, closed, quoted, meaning}
 use Rattle.unescape_pieces.specs.Pieces.{meaningFrom, startOf}

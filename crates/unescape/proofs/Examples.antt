@@ -5,7 +5,7 @@ use mathlib.Core.Path.{_≡_, refl}
 use mathlib.Core.List.{List, [], _∷_, _++_}
 use lib.ListN.{length}
 use Rattle.text.specs.Ascii.{ascii}
-use Rattle.text.specs.Utf8.{owes, utf8}
+use Rattle.utf8.specs.Utf8.{owes, utf8}
 use Rattle.text.specs.declared.bytes.Part.{Part}
 use Rattle.tokenizer.specs.Token.{lineOf}
 use Rattle.tokenizer.specs.declared.token.Token.{Token}

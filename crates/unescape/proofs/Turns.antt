@@ -9,7 +9,7 @@ use native.Mathlib.Omega.{arith}
 use lib.Dec.{ltb}
 use lib.ListN.{length, take, drop, length-append, length-drop}
 use lib.Seq.{drop-drop, take-nil, take-take, take-append-seam, length-take-le}
-use Rattle.text.specs.Scalar.{isScalar, encoding, encodingOf, encodedOf}
+use Rattle.utf8.specs.Scalar.{isScalar, encoding, encodingOf, encodedOf}
 use Rattle.text.proofs.Cases.{by-bool}
 use Rattle.unescape_pieces.specs.Meaning.{Meaning, part, bytes, code, refused, written}
 use Rattle.unescape_pieces.specs.Pieces.{nextOf, meaningFrom}

@@ -4,7 +4,7 @@ use mathlib.Core.Path.{_≡_, _∙_, sym}
 use mathlib.Core.List.{List, [], _++_}
 use native.Mathlib.Omega.{arith}
 use lib.ListN.{length, take, drop, length-drop}
-use Rattle.text.specs.Scalar.{encodingOf}
+use Rattle.utf8.specs.Scalar.{encodingOf}
 use Rattle.text.proofs.Front.{from}
 use Rattle.unescape_pieces.specs.Meaning.{Meaning, bytes, code, refused}
 use Rattle.unescape_pieces.specs.Pieces.{nextOf, meaningFrom}

@@ -7,7 +7,7 @@ ghost use mathlib.Core.List.{_++_};
 ghost use Prim.Native.Nat.{_≤_};
 ghost use lib.ListN.{length, drop};
 ghost use Rattle.text.specs.Numbers.{maxDocument};
-ghost use Rattle.text.specs.Scalar.{encodingOf};
+ghost use Rattle.utf8.specs.Scalar.{encodingOf};
 ghost use Rattle.unescape_pieces.specs.Pieces.{meaningFrom};
 ghost use Rattle.unescape.specs.Walk.{measuredOf, WrittenFits, bufferAfter};
 
@@ -37,7 +37,7 @@ pub(crate) fn measure(start: usize, first: Spot, indent: &[u8], s: &[u8]) -> Mea
                 spot = next.spot;
             }
             Piece::Scalar(n) => {
-                let e = text::encode(n);
+                let e = utf8::encode(n);
                 len += e.len;
                 at += next.pass;
                 spot = next.spot;
@@ -67,7 +67,7 @@ fn put(n: u32, out: &mut [u8]) -> usize
     ensures { λ r. ⌜ r ≡ length (encodingOf n) ⌝ }
     ensures { λ _. ⌜ now (out .exit) ≡ encodingOf n ++ drop (length (encodingOf n)) (now (out .entry)) ⌝ }
 {
-    let e = text::encode(n);
+    let e = utf8::encode(n);
     let bytes = e.bytes;
     let len = e.len;
     copy(&bytes[..len], out);

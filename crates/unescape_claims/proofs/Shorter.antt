@@ -9,7 +9,7 @@ use lib.Dec.{eqb, leb, ltb}
 use lib.ListN.{length, drop, length-append, length-drop, length-take}
 use borrow.Author.Tests.{leb-false}
 use Rattle.text.specs.Bytes.{isBreak, countWhile, notBreak, startsWith}
-use Rattle.text.specs.Utf8.{within, leadOf, owes, utf8}
+use Rattle.utf8.specs.Utf8.{within, leadOf, owes, utf8}
 use Rattle.text.proofs.Cases.{on-cond}
 use Rattle.tokenizer.specs.Token.{lineOf}
 use Rattle.tokenizer.specs.Step.{bytesOf}

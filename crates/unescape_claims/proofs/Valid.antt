@@ -16,11 +16,11 @@ use lib.ListN.{length, take, getD}
 use lib.Seq.{take-length, take-suc}
 use borrow.Author.Tests.{eqb-true}
 use Rattle.text.specs.Bytes.{countWhile, notBreak, startsWith}
-use Rattle.text.specs.Scalar.{isScalar, encoding}
-use Rattle.text.specs.Utf8.{owes, utf8}
+use Rattle.utf8.specs.Scalar.{isScalar, encoding}
+use Rattle.utf8.specs.Utf8.{owes, utf8}
 use Rattle.text.proofs.Cases.{on-cond, and-left, and-right}
-use Rattle.text.proofs.Joins.{utf8-append, utf8-drop, utf8-cut, utf8-snoc}
-use Rattle.text.proofs.Unicode.{utf8-ascii, utf8-encoding}
+use Rattle.utf8.proofs.Joins.{utf8-append, utf8-drop, utf8-cut, utf8-snoc}
+use Rattle.utf8.proofs.Unicode.{utf8-ascii, utf8-encoding}
 use Rattle.unescape_pieces.specs.Codes.{codeOf, simpleOf}
 use Rattle.unescape_pieces.specs.Meaning.{
   Meaning,

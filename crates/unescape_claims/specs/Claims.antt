@@ -6,7 +6,7 @@ use mathlib.Core.List.{List, [], _∷_}
 use mathlib.Core.Bool.{true}
 use lib.ListN.{length, take, drop}
 use Rattle.text.specs.Ascii.{ascii}
-use Rattle.text.specs.Utf8.{utf8}
+use Rattle.utf8.specs.Utf8.{utf8}
 use Rattle.text.specs.Numbers.{shortBuffer}
 use Rattle.text.specs.declared.bytes.Part.{Part}
 use Rattle.tokenizer.specs.Step.{noPart}

@@ -12,10 +12,10 @@ use lib.ListN.{length, drop, getD, drop-of-length-le}
 use lib.Seq.{drop-cons}
 use borrow.Author.Tests.{eq-eqb, ne-eqb, le-leb, lt-leb}
 use Rattle.text.specs.Bytes.{firstOf}
-use Rattle.text.specs.Utf8.{within}
+use Rattle.utf8.specs.Utf8.{within}
 use Rattle.text.specs.declared.bytes.First.the-variants.{Byte, Nothing}
 use Rattle.text.proofs.Front.{empty, split}
-use Rattle.text.proofs.Prefix.{below, above, inside}
+use Rattle.utf8.proofs.Ranges.{below, above, inside}
 use Rattle.unescape_pieces.specs.Codes.{digitOf, digitsFrom, digits, afterPlus, codeOf, noScalar}
 
 -- A digit

@@ -10,7 +10,7 @@ use lib.Dec.{eqb}
 use lib.ListN.{length, take, drop, getD}
 use borrow.Author.Tests.{eqb-true}
 use Rattle.text.specs.Bytes.{countWhile}
-use Rattle.text.specs.Scalar.{isScalar, encoding}
+use Rattle.utf8.specs.Scalar.{isScalar, encoding}
 use Rattle.text.proofs.Cases.{by-bool, on-cond, clash}
 use Rattle.unescape_pieces.specs.Codes.{codeOf, simpleOf}
 use Rattle.unescape_pieces.specs.Meaning.{Meaning, part, bytes, code, refused, written, plain, brace, quoted}

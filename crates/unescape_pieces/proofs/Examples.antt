@@ -5,8 +5,8 @@ use mathlib.Core.Path.{_≡_, refl}
 use mathlib.Core.List.{List, [], _∷_}
 use Rattle.text.specs.Ascii.{ascii}
 use Rattle.text.specs.Bytes.{isBreak, countWhile, startsWith}
-use Rattle.text.specs.Scalar.{isScalar, encoding}
-use Rattle.text.specs.Utf8.{within, leadOf, followed, charLen}
+use Rattle.utf8.specs.Scalar.{isScalar, encoding}
+use Rattle.utf8.specs.Utf8.{within, leadOf, followed, charLen}
 use Rattle.tokenizer.specs.declared.token.Token.the-variants.{Comment, Value}
 use Rattle.unescape_pieces.specs.Source.{sourceOf}
 use Rattle.unescape_pieces.specs.Codes.{digitOf, digitsFrom, digits, afterPlus, codeOf, simpleOf}

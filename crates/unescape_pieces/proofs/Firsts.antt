@@ -9,8 +9,8 @@ use lib.Dec.{eqb}
 use lib.ListN.{length, take, drop, getD, List·getD-eq-default}
 use borrow.Author.Tests.{eq-eqb, ne-eqb}
 use Rattle.text.specs.Bytes.{countWhile, firstOf}
-use Rattle.text.specs.Scalar.{isScalar}
-use Rattle.text.specs.Utf8.{charLen}
+use Rattle.utf8.specs.Scalar.{isScalar}
+use Rattle.utf8.specs.Utf8.{charLen}
 use Rattle.text.specs.declared.bytes.First.the-variants.{Byte, Nothing}
 use Rattle.text.proofs.Front.{empty}
 use Rattle.unescape_pieces.specs.Codes.{codeOf, simpleOf}

@@ -8,7 +8,7 @@ use lib.Dec.{eqb, leb}
 use lib.ListN.{length}
 use borrow.Author.Tests.{leb-true}
 use Rattle.text.specs.Bytes.{countWhile, notBreak}
-use Rattle.text.specs.Scalar.{isScalar, encoding}
+use Rattle.utf8.specs.Scalar.{isScalar, encoding}
 use Rattle.text.proofs.Cases.{on-cond, and-left}
 use Rattle.unescape_pieces.specs.Codes.{codeOf, simpleOf}
 use Rattle.unescape_pieces.specs.Meaning.{

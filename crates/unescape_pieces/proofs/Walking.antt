@@ -10,10 +10,10 @@ use lib.ListN.{length, take, drop, getD, length-drop, List·getD-eq-default}
 use lib.Seq.{length-take-le}
 use borrow.Author.Tests.{eqb-true, eqb-false, ltb-true, ltb-false, lt-ltb}
 use Rattle.text.specs.Bytes.{countWhile, lineEnd, notBreak, breakSize, startsWith, firstOf}
-use Rattle.text.specs.Scalar.{isScalar, encoding, encodingOf}
-use Rattle.text.specs.Utf8.{charLen}
+use Rattle.utf8.specs.Scalar.{isScalar, encoding, encodingOf}
+use Rattle.utf8.specs.Utf8.{charLen}
 use Rattle.text.proofs.Cases.{by-bool, on-cond, clash}
-use Rattle.text.proofs.Chars.{charLen-le}
+use Rattle.utf8.proofs.Chars.{charLen-le}
 use Rattle.text.proofs.Front.{break-le}
 use Rattle.text.proofs.Prefix.{short}
 use Rattle.text.proofs.Scan.{count-le}

@@ -5,7 +5,7 @@ use mathlib.Core.List.{List, [], _∷_}
 use mathlib.Core.Bool.{Bool, true, false, cond, _&&_, _||_}
 use lib.Dec.{eqb, leb}
 use lib.ListN.{length}
-use Rattle.text.specs.Utf8.{within}
+use Rattle.utf8.specs.Utf8.{within}
 
 -- the value of a hexadecimal digit of either case, or 16
 unfoldable pub digitOf : ℕ → ℕ

@@ -7,8 +7,8 @@ use mathlib.Core.Bool.{Bool, true, false, cond, not, _&&_, _||_}
 use lib.Dec.{eqb, leb}
 use lib.ListN.{length, take, drop, getD}
 use Rattle.text.specs.Bytes.{isBreak, countWhile, notBreak, startsWith}
-use Rattle.text.specs.Utf8.{charLen}
-use Rattle.text.specs.Scalar.{isScalar, encoding}
+use Rattle.utf8.specs.Utf8.{charLen}
+use Rattle.utf8.specs.Scalar.{isScalar, encoding}
 use Rattle.text.specs.Numbers.{escapeAtEnd, extraCharacters, unclosedQuotes}
 use Rattle.unescape_pieces.specs.Codes.{codeOf, simpleOf}
 use Rattle.unescape_pieces.specs.declared.source.Style.{Style}

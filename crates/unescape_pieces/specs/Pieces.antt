@@ -8,8 +8,8 @@ use mathlib.Core.Bool.{Bool, true, false, cond, not, _&&_, _||_}
 use lib.Dec.{eqb, ltb}
 use lib.ListN.{length, take, drop, getD}
 use Rattle.text.specs.Bytes.{countWhile, lineEnd, breakSize, startsWith}
-use Rattle.text.specs.Scalar.{isScalar}
-use Rattle.text.specs.Utf8.{charLen}
+use Rattle.utf8.specs.Scalar.{isScalar}
+use Rattle.utf8.specs.Utf8.{charLen}
 use Rattle.text.specs.Numbers.{escapeAtEnd, extraCharacters, unclosedQuotes}
 use Rattle.unescape_pieces.specs.Codes.{codeOf, simpleOf}
 use Rattle.unescape_pieces.specs.Meaning.{Meaning, part, bytes, plain, quoted, isEmpty, linesIn, without, laterLines, joinedLines}

@@ -87,7 +87,7 @@ fn brace_next(s: &[u8]) -> Next
         return stop(Piece::Code(n + 2));
     }
     let code = code_of(&s[..n]);
-    if !text::is_scalar(code) {
+    if !utf8::is_scalar(code) {
         return stop(Piece::Code(n + 3));
     }
     Next {
@@ -109,7 +109,7 @@ fn escape_next(s: &[u8]) -> Next
     }
     let code = simple_of(b);
     if code == 0 {
-        return stop(Piece::Code(1 + text::char_len(s)));
+        return stop(Piece::Code(1 + utf8::char_len(s)));
     }
     Next {
         piece: Piece::Scalar(code),

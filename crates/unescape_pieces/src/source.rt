@@ -83,7 +83,7 @@ pub fn is_sound(doc: &[u8], p: Part) -> bool
     if doc.len() < end {
         return false;
     }
-    text::is_utf8(&doc[start..end])
+    utf8::is_utf8(&doc[start..end])
 }
 
 // A key or a value: plain without quotes, or with quotes at both ends and nothing between them that has to be unescaped.

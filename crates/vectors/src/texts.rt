@@ -10,7 +10,7 @@ use text::Dropped;
 pub fn utf8_agrees(line: &[u8], s: &[u8], after: usize) -> bool {
     let n = number_at(line, after);
     let one = n.value == 1;
-    is_last(line, n) && one == text::is_utf8(s)
+    is_last(line, n) && one == utf8::is_utf8(s)
 }
 
 pub fn trimming_agrees(line: &[u8], s: &[u8], after: usize, which: Dropped) -> bool {

@@ -4,7 +4,7 @@ use Prim.Native.Nat.{_+_, _-_, _*_}
 use mathlib.Core.Path.{ap, _∙_}
 use native.Mathlib.Omega.{arith}
 use lib.ListN.{length, drop}
-use Rattle.text.specs.declared.scalar.Encoded.{Encoded}
+use Rattle.utf8.specs.declared.scalar.Encoded.{Encoded}
 use Rattle.text.proofs.Front.{from}
 use Rattle.unescape_pieces.specs.Pieces.{meaningFrom}
 use Rattle.unescape_pieces.proofs.Walking.{weight}

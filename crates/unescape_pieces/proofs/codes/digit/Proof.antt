@@ -1,6 +1,6 @@
 -- `digit` goes by the ranges of `digitOf` (proofs/Digits).
 use native.Mathlib.Omega.{arith}
-use Rattle.text.proofs.Prefix.{below, above}
+use Rattle.utf8.proofs.Ranges.{below, above}
 use Rattle.unescape_pieces.proofs.Digits.{numeral, capital, small, no-digit}
 use borrow.Author.Needs.{needs}
 use Rattle.unescape_pieces.proofs.codes.digit.Statement.{statement}

@@ -3,7 +3,7 @@ use mathlib.Core.Path.{sym, ap, _∙_}
 use native.Mathlib.Omega.{arith}
 use lib.Seq.{length-take-le}
 use borrow.Author.Tests.{not-true, not-false}
-use Rattle.text.specs.Scalar.{isScalar}
+use Rattle.utf8.specs.Scalar.{isScalar}
 use Rattle.text.proofs.Scan.{count-le}
 use Rattle.unescape_pieces.specs.Pieces.{inBrace}
 use Rattle.unescape_pieces.proofs.Firsts.{brace-end, brace-quote, brace-bad, brace-code}

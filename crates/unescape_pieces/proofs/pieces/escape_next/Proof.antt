@@ -1,7 +1,7 @@
 -- `escape_next` goes by the byte after the backslash (proofs/Firsts).
 use mathlib.Core.Path.{sym, _∙_}
 use native.Mathlib.Omega.{arith}
-use Rattle.text.proofs.Chars.{charLen-le}
+use Rattle.utf8.proofs.Chars.{charLen-le}
 use Rattle.text.proofs.Front.{some, from}
 use Rattle.unescape_pieces.proofs.Firsts.{escape-none, escape-brace, escape-bad, escape-simple}
 use borrow.Author.Needs.{needs}

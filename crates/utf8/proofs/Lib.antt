@@ -1,0 +1,10 @@
+pub mod Chars
+pub mod Leads
+pub mod Ranges
+pub mod Skipped
+pub mod Rows
+pub mod Wide
+pub mod Scalars
+pub mod Unicode
+pub mod Trimmed
+pub mod Joins
