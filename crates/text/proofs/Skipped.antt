@@ -1,4 +1,4 @@
--- What a scan by eights passes over: the scan by bytes may go on from there (proofs/Passing, `along`).
+-- What a scan by eights passes over: the scan by bytes may go on from there (text_scans/proofs/Passing, `along`).
 use Prim.Native.Nat.{ℕ, _+_, _≤_, min}
 use mathlib.Core.Path.{_≡_, refl, sym, _∙_}
 use mathlib.Core.List.{List}

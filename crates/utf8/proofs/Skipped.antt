@@ -1,4 +1,4 @@
--- What the scan of eights below 80 passes over: the scan by characters may go on from there (text_scans, `along`).
+-- What the scan of eights below 80 passes over: the scan by characters may go on from there (text_scans/proofs/Passing, `along`).
 use Prim.Native.Nat.{ℕ, _≤_}
 use mathlib.Core.Path.{_≡_, refl, _∙_}
 use mathlib.Core.List.{List}
