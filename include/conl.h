@@ -162,7 +162,9 @@ enum conl_text {
 
 /*
  * Unescapes the text of a token of the document: of `row`, as conl_tokenize or conl_parse wrote it,
- * with or without the spare word. The text of a kind that has none is the empty part at 0.
+ * with or without the spare word. The text of a kind that has none is the empty part at 0. A key or
+ * a value in quotes may have the escapes \" \\ \n \r \t and \{h}, where h is 1 to 8 hexadecimal
+ * digits that name a scalar value; any other is refused by 8.
  *
  * Returns true, with the answer in the first CONL_ANSWER_WORDS words of `answer`. A text that is
  * not a part of the document is written to the front of `out`, of which every other byte is as it

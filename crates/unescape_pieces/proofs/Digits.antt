@@ -1,5 +1,5 @@
--- The codes behind a backslash, as the code reads them: a hexadecimal digit by its range, digits from the left at a position of
--- the bytes, and the optional `+`. Eight digits at most make a number below 16^8, so that none wraps.
+-- The codes behind a backslash, as the code reads them: a hexadecimal digit by its range, and digits from the left at a position
+-- of the bytes. Eight digits at most make a number below 16^8, so that none wraps.
 use Prim.Native.Nat.{ℕ, suc, _+_, _-_, _*_, _^_, _≤_, _<_}
 use mathlib.Core.Path.{_≡_, refl}
 use mathlib.Core.List.{List, [], _∷_}
@@ -10,13 +10,10 @@ use native.Mathlib.Omega.{arith}
 use lib.Dec.{leb}
 use lib.ListN.{length, drop, getD, drop-of-length-le}
 use lib.Seq.{drop-cons}
-use borrow.Author.Tests.{eq-eqb, ne-eqb, le-leb, lt-leb}
-use Rattle.text.specs.Bytes.{firstOf}
+use borrow.Author.Tests.{le-leb, lt-leb}
 use Rattle.utf8.specs.Utf8.{within}
-use Rattle.text.specs.declared.bytes.First.the-variants.{Byte, Nothing}
-use Rattle.text.proofs.Front.{empty, split}
 use Rattle.utf8.proofs.Ranges.{below, above, inside}
-use Rattle.unescape_pieces.specs.Codes.{digitOf, digitsFrom, digits, afterPlus, codeOf, noScalar}
+use Rattle.unescape_pieces.specs.Codes.{digitOf, digitsFrom, codeOf, noScalar}
 
 -- A digit
 module _ (b : ℕ) where
@@ -56,25 +53,16 @@ grows n d i h k = rw (add-one, pow-suc) (omega arith)
 pub room : (i : ℕ) → i ≤ 8 → 16 ^ i ≤ 4294967296
 room i h = pow-le-pow-right {n = 16} (omega arith) {i = i} {j = 8} h
 
--- The bytes between braces, b being the first
+-- The bytes between braces
 module _ (h : List ℕ) where
+  pub none : length h ≡ 0 → codeOf h ≡ noScalar
+  unfolding codeOf
+  none e = rw (below 1 8 (length h) (omega arith))
+
   pub long : 8 < length h → codeOf h ≡ noScalar
   unfolding codeOf
-  long k = rw (lt-leb (length h) 8 k)
+  long k = rw (above 1 8 (length h) k)
 
-  pub no-code : length h ≤ 8 → firstOf h ≡ Nothing → codeOf h ≡ noScalar
-  unfolding codeOf afterPlus
-  no-code k e = rw (empty h e)
-
-module _ (h : List ℕ) (b : ℕ) (f : firstOf h ≡ Byte b) (k : length h ≤ 8) where
-  pub no-plus : (b ≡ 43 → ⊥) → codeOf h ≡ digitsFrom 0 h
-  unfolding codeOf afterPlus digits
-  no-plus n = rw (le-leb (length h) 8 k, split h b f, ne-eqb b 43 n)
-
-  pub plus-alone : b ≡ 43 → length h < 2 → codeOf h ≡ noScalar
-  unfolding codeOf afterPlus digits
-  plus-alone e l = rw (le-leb (length h) 8 k, split h b f, e, drop-of-length-le h {i = 1} (omega arith))
-
-  pub plus : b ≡ 43 → 2 ≤ length h → codeOf h ≡ digitsFrom 0 (drop 1 h)
-  unfolding codeOf afterPlus digits
-  plus e l = rw (le-leb (length h) 8 k, split h b f, e, drop-cons h 1 0 (omega arith))
+  pub some : 0 < length h → length h ≤ 8 → codeOf h ≡ digitsFrom 0 h
+  unfolding codeOf
+  some l k = rw (inside 1 8 (length h) l k)

@@ -9,7 +9,7 @@ use Rattle.utf8.specs.Scalar.{isScalar, encoding}
 use Rattle.utf8.specs.Utf8.{within, leadOf, followed, charLen}
 use Rattle.tokenizer.specs.declared.token.Token.the-variants.{Comment, Value}
 use Rattle.unescape_pieces.specs.Source.{sourceOf}
-use Rattle.unescape_pieces.specs.Codes.{digitOf, digitsFrom, digits, afterPlus, codeOf, simpleOf}
+use Rattle.unescape_pieces.specs.Codes.{digitOf, digitsFrom, codeOf, simpleOf}
 use Rattle.unescape_pieces.specs.Meaning.{
   Meaning,
   part,
@@ -30,7 +30,7 @@ use Rattle.unescape_pieces.specs.Meaning.{
 
 -- what computing a meaning unfolds
 unfoldable pub rules : List ℕ → Meaning
-unfolding isBreak countWhile startsWith isScalar encoding within leadOf followed charLen digitOf digitsFrom digits afterPlus codeOf simpleOf quoted allLiteral simplyQuoted entryMeaning isEmpty linesIn laterLines joinedLines blockMeaning
+unfolding isBreak countWhile startsWith isScalar encoding within leadOf followed charLen digitOf digitsFrom codeOf simpleOf quoted allLiteral simplyQuoted entryMeaning isEmpty linesIn laterLines joinedLines blockMeaning
 rules s = entryMeaning s
 
 -- `"\{0010FFFF}"` is the last scalar value
@@ -58,8 +58,8 @@ pub no-digit : entryMeaning (ascii "\"\\{}\"") ≡ code 1 4
 unfolding rules
 no-digit = refl
 
--- `"\{+41}"` is A
-pub plus : entryMeaning (ascii "\"\\{+41}\"") ≡ bytes (ascii "A")
+-- `"\{+41}"` is 8, and the whole code is shown: no sign stands before the digits
+pub plus : entryMeaning (ascii "\"\\{+41}\"") ≡ code 1 7
 unfolding rules
 plus = refl
 

@@ -23,19 +23,9 @@ unfoldable pub digitsFrom : ℕ → List ℕ → ℕ
 digitsFrom n [] = n
 digitsFrom n (b ∷ r) = let m = digitsFrom (n * 16 + digitOf b) r in cond (leb 16 (digitOf b)) noScalar m
 
--- one digit at least
-unfoldable pub digits : List ℕ → ℕ
-digits [] = noScalar
-digits (b ∷ r) = digitsFrom 0 (b ∷ r)
-
--- an optional `+` in front
-unfoldable pub afterPlus : List ℕ → ℕ
-afterPlus [] = noScalar
-afterPlus (b ∷ r) = let m = digits r in cond (eqb b (byte "+")) m (digits (b ∷ r))
-
--- the number that the bytes between braces name: 1 to 8 of them
+-- the number that the bytes between braces name: 1 to 8 of them, all digits
 unfoldable pub codeOf : List ℕ → ℕ
-codeOf h = let n = afterPlus h in cond (leb (length h) 8) n noScalar
+codeOf h = let n = digitsFrom 0 h in cond (within 1 8 (length h)) n noScalar
 
 -- the byte that a backslash and this byte stand for: `"`, `\`, `n`, `r`, `t`; 0 for any other
 unfoldable pub simpleOf : ℕ → ℕ

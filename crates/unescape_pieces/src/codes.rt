@@ -1,6 +1,4 @@
 // The codes behind a backslash.
-use text::First;
-use text::first_of;
 ghost use mathlib.Core.Path.{_≡_};
 ghost use Prim.Native.Nat.{_≤_};
 ghost use lib.ListN.{length};
@@ -39,23 +37,17 @@ fn digits_value(h: &[u8]) -> u32
     n
 }
 
-// The number that the bytes between braces name. More than 8 of them name none, so that no number wraps.
+// The number that the bytes between braces name: 1 to 8 digits, so that no number wraps.
 pub(crate) fn code_of(h: &[u8]) -> u32
     ensures { λ r. ⌜ r ≡ codeOf (now (h .entry)) ⌝ }
 {
+    if h.len() == 0 {
+        return NO_SCALAR;
+    }
     if 8 < h.len() {
         return NO_SCALAR;
     }
-    let First::Byte(b) = first_of(h) else {
-        return NO_SCALAR;
-    };
-    if b != b'+' {
-        return digits_value(h);
-    }
-    if h.len() < 2 {
-        return NO_SCALAR;
-    }
-    digits_value(&h[1..])
+    digits_value(h)
 }
 
 // The byte that a backslash and b stand for, or 0.

@@ -1,5 +1,6 @@
 //! The original's answers in the port's form: rows and texts with document 01's numbers.
 
+use crate::plus::unescape;
 use crate::texts::place;
 use conl::port::{Row, REFUSED};
 use original::{SyntaxError, Token};
@@ -74,9 +75,9 @@ pub enum Text {
     },
 }
 
-/// What the original unescapes a token to whose texts lie in `document`.
+/// What is due of a token whose texts lie in `document`.
 pub fn text(document: &[u8], token: &Token) -> Text {
-    match token.unescape() {
+    match unescape(token) {
         Ok(Cow::Owned(text)) => Text::Written(text.into_bytes()),
         Ok(Cow::Borrowed(part)) => Text::Plain(match token {
             Token::Newline(_)
@@ -104,13 +105,13 @@ pub fn text(document: &[u8], token: &Token) -> Text {
 }
 
 /// The part of `text` that the message of an invalid escape code shows. Dropping characters from
-/// `text`'s end changes nothing in what the original says until one of this part is dropped.
+/// `text`'s end changes nothing in what is due until one of this part is dropped.
 fn shown<'a>(text: &'a str, message: &str) -> &'a str {
     let starts = text.char_indices().rev().map(|(end, _)| &text[..end]);
     let shortest = iter::once(text)
         .chain(starts)
         .take_while(|start| {
-            let answer = Token::Value(1, start).unescape();
+            let answer = unescape(&Token::Value(1, start));
             answer.is_err_and(|error| error.msg == message)
         })
         .last()

@@ -23,6 +23,18 @@ const STEPS: [&[&str]; 4] = [&[" "], &["\t"], &[" ", "\t"], &["  ", "\t", " \t",
 /// How many documents there are for each depth and each indentation.
 const NESTED: usize = 200;
 
+/// A plus in braces: where unescaping comes to it, and where it does not.
+const PLUSES: [&str; 8] = [
+    "a\n  \"\\{+41}b\" = \"c\\{41}\\{+42}\" ; d\n",
+    "= \"\\{+110000}\"\n= \"\\{+}\"\n= \"\\{+\"\n= \"\\{+41",
+    "= \"\\{4+1}\"\n= \"\\{-41}\"\n= \"\\{++1}\"\n= \"\\{+g}\"",
+    "a = \"\\\\{+41}\"\nb = \"\\x\\{+41}\"\nc = \"\\{4\\{+1}\"",
+    "a = \"\\{+00000041}\"\nb = \"\\{+0000041}\"\nc = \"\\{+é}\"",
+    "a = b\\{+41}\nc\\{+41} = \"d\"\\{+41}",
+    "; \"\\{+41}\"\n= \"\"\"\\{+41}\n  \"\\{+41}\"\n",
+    "\"\\{+41}\"\n\"\\{+41}\" = 2\nA = 3\n",
+];
+
 /// What documents at the limit repeat: an entry of each sort, a map that the parser accepts, one long
 /// key, one long comment.
 const REPEATED: [&str; 4] = [
@@ -82,6 +94,7 @@ impl Extent {
                 }
             }
         }
+        PLUSES.iter().for_each(|document| each(document.as_bytes()));
         if self.at_limit {
             eprintln!("  about {LIMIT} bytes");
             at_limit(each);

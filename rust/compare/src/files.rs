@@ -3,6 +3,7 @@
 
 use crate::answers::number_of;
 use crate::documents::LIMIT;
+use crate::plus;
 use crate::readings::SECTIONS;
 use crate::ways::WAYS;
 use original::Token;
@@ -17,8 +18,8 @@ use std::time::{Duration, Instant};
 /// How long it is kept quiet about how far the files are.
 const QUIET: Duration = Duration::from_secs(5);
 
-/// Compares the files and those of the folders, and prints a line for each difference and each file
-/// that is not compared, then what was compared.
+/// Compares the files and those of the folders, and prints a line for each difference, each text that
+/// is set aside and each file that is not compared, then what was compared.
 pub fn compare(paths: &[PathBuf]) -> ExitCode {
     let mut seen = Seen::start();
     for path in paths {
@@ -43,6 +44,8 @@ struct Seen {
     /// How many documents, or texts of tokens, are refused by each number, and its message.
     refused: BTreeMap<usize, (String, u64)>,
     differences: u64,
+    /// How many texts have a plus in braces.
+    pluses: u64,
     over_limits: u64,
     unreadable: u64,
     /// The folders gone through, so that no link leads around.
@@ -58,6 +61,7 @@ impl Seen {
             accepted: 0,
             refused: BTreeMap::new(),
             differences: 0,
+            pluses: 0,
             over_limits: 0,
             unreadable: 0,
             folders: BTreeSet::new(),
@@ -108,6 +112,7 @@ impl Seen {
         self.documents += 1;
         self.bytes += document.len() as u64;
         self.count(document);
+        self.set_texts_aside(path, document);
         for difference in WAYS.iter().filter_map(|way| way.difference(document)) {
             println!("{}: {difference}", path.display());
             self.differences += 1;
@@ -126,12 +131,21 @@ impl Seen {
         self.over_limits += 1;
     }
 
-    /// Counts what the original says of the document, and of its tokens' texts.
+    fn set_texts_aside(&mut self, path: &Path, document: &[u8]) {
+        let tokens = original::tokenize(document).flatten();
+        for token in tokens.filter(plus::is_set_aside) {
+            let (path, line) = (path.display(), token.line_number());
+            println!("{path}: line {line}: set aside, a plus in braces: the text is refused (8)");
+            self.pluses += 1;
+        }
+    }
+
+    /// Counts what the original says of the document, and what is due of its tokens' texts.
     fn count(&mut self, document: &[u8]) {
         let mut accepted = 1;
         for said in original::parse(document) {
             let error = match said {
-                Ok(token) => token.unescape().err(),
+                Ok(token) => plus::unescape(&token).err(),
                 Err(error) => {
                     accepted = 0;
                     Some(error)
@@ -181,6 +195,7 @@ impl Display for Seen {
                 _ => writeln!(f, "  texts refused, {number} ({message}): {count}")?,
             }
         }
+        writeln!(f, "  texts set aside, a plus in braces: {}", self.pluses)?;
         writeln!(f, "  set aside, over the limits: {}", self.over_limits)?;
         writeln!(f, "  not compared: {}", self.unreadable)?;
         writeln!(f, "compare: {} differences", self.differences)

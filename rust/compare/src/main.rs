@@ -11,6 +11,7 @@ mod joined;
 mod listings;
 mod look_ups;
 mod parses;
+mod plus;
 mod random;
 mod readings;
 mod spend;

@@ -1,7 +1,8 @@
-//! Unescaping, against the original's `Token::unescape`.
+//! Unescaping, against the original's `Token::unescape`; texts that are set aside, against their twins'.
 
 use crate::answers::{name, row, text, Text};
 use crate::documents::LIMIT;
+use crate::plus::is_set_aside;
 use crate::tally::Tally;
 use crate::texts::every;
 use conl::port::{self, Row, Unescaped, REFUSED};
@@ -53,14 +54,19 @@ const INDENT_BYTES: usize = 3;
 /// How many bytes more than a token's text the largest buffer has.
 const SPARE: usize = 8;
 
+/// How a tally names the texts that are set aside.
+const SET_ASIDE: &str = "texts set aside, a plus in braces";
+
 /// What is said of a token with one buffer; or that buffer, where bytes of it were changed that are
 /// none of a written text's.
 pub type Answer = Result<Text, Vec<u8>>;
 
-/// The token of a row, a buffer's length, and what is said of the token with such a buffer.
+/// The token of a row and whether its text is set aside, a buffer's length, and what is said of the
+/// token with such a buffer.
 #[derive(Debug, PartialEq)]
 struct Said {
     row: Row,
+    set_aside: bool,
     room: usize,
     answer: Answer,
 }
@@ -68,7 +74,7 @@ struct Said {
 pub fn start(over_limit: bool) -> Tally {
     let over_limit = over_limit.then_some(12);
     let refusals = (8..=11).chain(over_limit).chain([14]);
-    let mut outcomes = vec!["plain", "written"];
+    let mut outcomes = vec![SET_ASIDE, "plain", "written"];
     outcomes.extend(refusals.map(|number| name(REFUSED + number)));
     Tally::start("unescaping", &outcomes)
 }
@@ -93,10 +99,9 @@ fn compare_tokens(tally: &mut Tally, text: &[u8], tokens: impl Fn(&[u8]) -> Vec<
     let rust = |document: &[u8]| answers(document, &tokens(document));
     let port = |way: fn(&[u8], &Row, usize) -> Answer| {
         move |document: &[u8], said: &Vec<Said>| {
-            let port = |&Said { row, room, .. }: &Said| Said {
-                row,
-                room,
-                answer: way(document, &row, room),
+            let port = |said: &Said| Said {
+                answer: way(document, &said.row, said.room),
+                ..*said
             };
             said.iter().map(port).collect()
         }
@@ -106,6 +111,10 @@ fn compare_tokens(tally: &mut Tally, text: &[u8], tokens: impl Fn(&[u8]) -> Vec<
         ("port, by the text", port(by_text)),
     ];
     for said in tally.compare_each(text, rust, ports) {
+        // Once for each token, with one of its buffers.
+        if said.set_aside && said.room == to_spare(&said.row) {
+            tally.saw(SET_ASIDE);
+        }
         tally.saw(match said.answer.expect("the original has no buffer") {
             Text::Plain(_) => "plain",
             Text::Written(_) => "written",
@@ -114,9 +123,8 @@ fn compare_tokens(tally: &mut Tally, text: &[u8], tokens: impl Fn(&[u8]) -> Vec<
     }
 }
 
-/// What the original says of each token with a buffer that has room to spare; then, of a text that
-/// it writes, with one that it just fits and one that is a byte too short; of any other, with an
-/// empty one.
+/// What is due of each token with a buffer that has room to spare; then, of a text that is written,
+/// with one that it just fits and one that is a byte too short; of any other, with an empty one.
 fn answers(document: &[u8], tokens: &[Token]) -> Vec<Said> {
     let mut answers = Vec::new();
     for token in tokens {
@@ -129,8 +137,9 @@ fn answers(document: &[u8], tokens: &[Token]) -> Vec<Said> {
         let rooms = iter::once(to_spare(&row)).chain(others.into_iter().flatten());
         answers.extend(rooms.map(|room| Said {
             row,
+            set_aside: is_set_aside(token),
             room,
-            answer: by_original(document, &row, &text, room),
+            answer: within_room(document, &row, &text, room),
         }));
     }
     answers
@@ -141,8 +150,8 @@ pub fn to_spare(row: &Row) -> usize {
     row.end - row.start + SPARE
 }
 
-/// What the original says, as far as the port's limit and a buffer of `room` bytes let it.
-fn by_original(document: &[u8], row: &Row, text: &Text, room: usize) -> Answer {
+/// What is due, as far as the port's limit and a buffer of `room` bytes let it.
+fn within_room(document: &[u8], row: &Row, text: &Text, room: usize) -> Answer {
     let refused = |number, line| Text::Refused {
         number,
         line,

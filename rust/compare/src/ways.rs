@@ -1,6 +1,7 @@
 //! The ways in which a server reads a document, with the original and with the crate `conl`.
 
 use crate::look_ups;
+use crate::plus;
 use crate::texts::place;
 use conl::port::{self, Found};
 use std::iter;
@@ -43,7 +44,7 @@ pub const WAYS: [Way; 3] = [
 /// The same program, compiled with either library: each token with its name, its line, the places of
 /// its texts and what it unescapes to; each error.
 macro_rules! told_by {
-    ($told:ident, $library:ident) => {
+    ($told:ident, $library:ident, $unescape:expr) => {
         mod $told {
             use super::{places, Told};
             use $library::{parse, tokenize, SyntaxError, Token};
@@ -75,15 +76,15 @@ macro_rules! told_by {
                 };
                 let (name, line) = (token.name(), token.line_number());
                 let places = places(document, &texts);
-                let text = token.unescape();
+                let text = $unescape(&token);
                 format!("{token:?}, a {name} on line {line}, at {places}, says {text:?}")
             }
         }
     };
 }
 
-told_by!(by_original, original);
-told_by!(by_port, conl);
+told_by!(by_original, original, super::plus::unescape);
+told_by!(by_port, conl, Token::unescape);
 
 fn places(document: &[u8], texts: &[&str]) -> String {
     let places = texts.iter().map(|text| place(document, text));

@@ -1,9 +1,9 @@
 //! CONL documents, read by proved code.
 //!
-//! The interface is that of the original library `conl`: the same items, answers and messages. A
-//! server that uses it names this crate in its place in Cargo.toml, and changes nothing else. What
-//! is read is decided by a static library whose every function is proved to follow the rules
-//! (docs/CLAIMS.md); here its answers become tokens and errors.
+//! The interface is that of the original library `conl`: the same items, answers and messages, but
+//! for what is said below. A server that uses it names this crate in its place in Cargo.toml, and
+//! changes nothing else. What is read is decided by a static library whose every function is proved to
+//! follow the rules (docs/CLAIMS.md); here its answers become tokens and errors.
 //!
 //! ```
 //! use conl::{parse, SyntaxError, Token};
@@ -30,8 +30,9 @@
 //! # Beyond the original
 //!
 //! There are two errors more: a 65th open section is one, and a document, or a token's text, of more
-//! than 16,777,216 bytes is the other, on line 0. [look_up] finds one entry of a document, and [port]
-//! has the calls of the static library.
+//! than 16,777,216 bytes is the other, on line 0. A plus in braces, as in `\{+41}`, is an invalid escape
+//! code, where the original takes it. [look_up] finds one entry of a document, and [port] has the calls
+//! of the static library.
 #![warn(clippy::undocumented_unsafe_blocks)]
 
 mod error;

@@ -10,6 +10,9 @@ impl<'tok> Token<'tok> {
     /// the lines of a multiline value, without the indentation and joined by LF. A comment's or a
     /// hint's text says what it is, and a token without a text says nothing.
     ///
+    /// The escapes are `\"`, `\\`, `\n`, `\r`, `\t`, and `\{h}` for the scalar value that 1 to 8
+    /// hexadecimal digits name.
+    ///
     /// It is borrowed where it stands in the token's text just so.
     #[inline(always)]
     pub fn unescape(&self) -> Result<Cow<'tok, str>, SyntaxError> {

@@ -301,7 +301,7 @@ const TEXTS: [&str; 40] = [
     "\"\\n\\r\\t\"",
     "\"\\{41}\"",
     "\"\\{1F600}😀\"",
-    "\"\\{+41}\"",
+    "\"\\{g41}\"",
     "\"\\{D800}\"",
     "\"\\{\"",
     "\"\\{é\u{301}",
@@ -343,6 +343,30 @@ fn tokens_made_by_hand() {
             made_alike(1, other, text);
             made_alike(1, " ", &(text.to_owned() + other));
         }
+    }
+}
+
+/// A plus in braces, where unescaping comes to it, is refused as the original refuses a letter there.
+#[test]
+fn a_plus_in_braces() {
+    let text = "\"a\\{41}\\{+41}\"";
+    let twin = text.replace('+', "g");
+    let port = conl::Token::Value(7, text).unescape().unwrap_err();
+    let original = original::Token::Value(7, &twin).unescape().unwrap_err();
+    assert_eq!(port.to_string(), "7: invalid escape code: \\{+41}");
+    assert_eq!(original.to_string(), "7: invalid escape code: \\{g41}");
+
+    for text in [
+        "\\{+41}",
+        "\"\\\\{+41}\"",
+        "\"a\"\\{+41}",
+        "\"\\x\\{+41}\"",
+        "\"\\{4\\{+1}\"",
+        "\"\\{+}\"",
+        "\"\\{+g}\"",
+        "\"\\{+",
+    ] {
+        made_alike(1, "", text);
     }
 }
 
