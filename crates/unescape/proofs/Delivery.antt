@@ -12,7 +12,7 @@ use Rattle.utf8.specs.Utf8.{charLen, utf8}
 use Rattle.text.specs.declared.bytes.Part.{Part}
 use Rattle.text.proofs.Cases.{on-cond, by-bool, and-left, and-right}
 use Rattle.utf8.proofs.Chars.{charLen-le}
-use Rattle.unescape_pieces.specs.Codes.{codeOf, simpleOf}
+use Rattle.unescape_codes.specs.Codes.{codeOf, simpleOf}
 use Rattle.unescape_pieces.specs.Meaning.{Meaning, part, bytes, code, refused, written, Mode, plain, escape, brace, closed, quoted, meaning}
 use Rattle.unescape_pieces.specs.Pieces.{meaningFrom, startOf}
 use Rattle.unescape_pieces.specs.declared.pieces.Spot.{Spot}

@@ -21,7 +21,7 @@ use Rattle.utf8.specs.Utf8.{owes, utf8}
 use Rattle.text.proofs.Cases.{on-cond, and-left, and-right}
 use Rattle.utf8.proofs.Joins.{utf8-append, utf8-drop, utf8-cut, utf8-snoc}
 use Rattle.utf8.proofs.Unicode.{utf8-ascii, utf8-encoding}
-use Rattle.unescape_pieces.specs.Codes.{codeOf, simpleOf}
+use Rattle.unescape_codes.specs.Codes.{codeOf, simpleOf}
 use Rattle.unescape_pieces.specs.Meaning.{
   Meaning,
   part,

@@ -12,7 +12,7 @@ use borrow.Author.Tests.{eqb-true}
 use Rattle.text.specs.Bytes.{countWhile}
 use Rattle.utf8.specs.Scalar.{isScalar, encoding}
 use Rattle.text.proofs.Cases.{by-bool, on-cond, clash}
-use Rattle.unescape_pieces.specs.Codes.{codeOf, simpleOf}
+use Rattle.unescape_codes.specs.Codes.{codeOf, simpleOf}
 use Rattle.unescape_pieces.specs.Meaning.{Meaning, part, bytes, code, refused, written, plain, brace, quoted}
 use Rattle.unescape_pieces.specs.Pieces.{isLiteral, inBrace}
 

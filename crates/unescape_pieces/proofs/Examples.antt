@@ -9,7 +9,7 @@ use Rattle.utf8.specs.Scalar.{isScalar, encoding}
 use Rattle.utf8.specs.Utf8.{within, leadOf, followed, charLen}
 use Rattle.tokenizer.specs.declared.token.Token.the-variants.{Comment, Value}
 use Rattle.unescape_pieces.specs.Source.{sourceOf}
-use Rattle.unescape_pieces.specs.Codes.{digitOf, digitsFrom, codeOf, simpleOf}
+use Rattle.unescape_codes.specs.Codes.{digitOf, digitsFrom, codeOf, simpleOf}
 use Rattle.unescape_pieces.specs.Meaning.{
   Meaning,
   part,

@@ -13,7 +13,7 @@ use Rattle.utf8.specs.Scalar.{isScalar}
 use Rattle.utf8.specs.Utf8.{charLen}
 use Rattle.text.specs.declared.bytes.First.the-variants.{Byte, Nothing}
 use Rattle.text.proofs.Front.{empty}
-use Rattle.unescape_pieces.specs.Codes.{codeOf, simpleOf}
+use Rattle.unescape_codes.specs.Codes.{codeOf, simpleOf}
 use Rattle.unescape_pieces.specs.Meaning.{isEmpty}
 use Rattle.unescape_pieces.specs.Pieces.{isLiteral, inBrace, stopped, passing, braceNext, escapeNext, quotedNext, entryStart}
 use Rattle.unescape_pieces.specs.declared.pieces.Spot.the-variants.{Quotes}

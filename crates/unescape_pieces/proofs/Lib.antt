@@ -1,5 +1,4 @@
 pub mod Examples
-pub mod Digits
 pub mod Escapes
 pub mod Broken
 pub mod Firsts

@@ -10,7 +10,7 @@ use borrow.Author.Tests.{leb-true}
 use Rattle.text.specs.Bytes.{countWhile, notBreak}
 use Rattle.utf8.specs.Scalar.{isScalar, encoding}
 use Rattle.text.proofs.Cases.{on-cond, and-left}
-use Rattle.unescape_pieces.specs.Codes.{codeOf, simpleOf}
+use Rattle.unescape_codes.specs.Codes.{codeOf, simpleOf}
 use Rattle.unescape_pieces.specs.Meaning.{
   Meaning,
   part,

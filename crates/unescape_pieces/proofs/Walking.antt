@@ -17,7 +17,7 @@ use Rattle.utf8.proofs.Chars.{charLen-le}
 use Rattle.text.proofs.Front.{break-le}
 use Rattle.text.proofs.Prefix.{short}
 use Rattle.text.proofs.Scan.{count-le}
-use Rattle.unescape_pieces.specs.Codes.{codeOf, simpleOf}
+use Rattle.unescape_codes.specs.Codes.{codeOf, simpleOf}
 use Rattle.unescape_pieces.specs.Meaning.{Meaning, bytes, code, refused, written, plain, escape, brace, closed, quoted, isEmpty, linesIn, laterLines}
 use Rattle.unescape_pieces.specs.Pieces.{
   isLiteral,

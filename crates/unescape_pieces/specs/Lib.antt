@@ -1,4 +1,3 @@
-pub mod Codes
 pub mod Meaning
 pub mod Source
 pub mod Pieces

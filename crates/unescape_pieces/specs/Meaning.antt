@@ -10,7 +10,7 @@ use Rattle.text.specs.Bytes.{isBreak, countWhile, notBreak, startsWith}
 use Rattle.utf8.specs.Utf8.{charLen}
 use Rattle.utf8.specs.Scalar.{isScalar, encoding}
 use Rattle.text.specs.Numbers.{escapeAtEnd, extraCharacters, unclosedQuotes}
-use Rattle.unescape_pieces.specs.Codes.{codeOf, simpleOf}
+use Rattle.unescape_codes.specs.Codes.{codeOf, simpleOf}
 use Rattle.unescape_pieces.specs.declared.source.Style.{Style}
 use Rattle.unescape_pieces.specs.declared.source.Style.the-variants.{AsIs, Entry, Block}
 

@@ -11,7 +11,7 @@ use Rattle.text.specs.Bytes.{countWhile, lineEnd, breakSize, startsWith}
 use Rattle.utf8.specs.Scalar.{isScalar}
 use Rattle.utf8.specs.Utf8.{charLen}
 use Rattle.text.specs.Numbers.{escapeAtEnd, extraCharacters, unclosedQuotes}
-use Rattle.unescape_pieces.specs.Codes.{codeOf, simpleOf}
+use Rattle.unescape_codes.specs.Codes.{codeOf, simpleOf}
 use Rattle.unescape_pieces.specs.Meaning.{Meaning, part, bytes, plain, quoted, isEmpty, linesIn, without, laterLines, joinedLines}
 use Rattle.unescape_pieces.specs.declared.pieces.Spot.{Spot}
 use Rattle.unescape_pieces.specs.declared.pieces.Spot.the-variants.{Quotes, FirstLine, LaterLine, Break}

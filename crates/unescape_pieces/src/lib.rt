@@ -1,5 +1,4 @@
 // A token's text and how it is read, and one piece of it at a time: bytes as they stand, a scalar value, or why it is refused.
-mod codes;
 mod pieces;
 mod source;
 

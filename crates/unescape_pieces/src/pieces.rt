@@ -1,8 +1,8 @@
 // One piece of an unescaped text at a time. The cursor is a place in the text and what stands there, by value.
-use crate::codes::code_of;
-use crate::codes::simple_of;
 use text::First;
 use text::first_of;
+use unescape_codes::code_of;
+use unescape_codes::simple_of;
 ghost use mathlib.Core.Path.{_≡_};
 ghost use Rattle.text.specs.Bytes.{countWhile};
 ghost use Rattle.unescape_pieces.specs.Pieces.{

@@ -1,10 +1,8 @@
 -- Byte by byte, each arm is its row of `simpleOf`.
 use borrow.Author.Tests.{ne-eqb}
--- One arm for each escape of `simpleOf`.
-use Rattle.unescape_pieces.specs.Codes.{simpleOf}
-use borrow.Author.Needs.{needs}
-use Rattle.unescape_pieces.proofs.codes.simple_of.Statement.{statement}
-use Rattle.unescape_pieces.proofs.codes.simple_of.Tie as tie
+use Rattle.unescape_codes.specs.Codes.{simpleOf}
+use Rattle.unescape_codes.proofs.codes.simple_of.Statement.{statement}
+use Rattle.unescape_codes.proofs.codes.simple_of.Tie as tie
 
 returns : tie.Need-returns
 unfolding simpleOf

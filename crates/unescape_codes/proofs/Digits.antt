@@ -1,19 +1,18 @@
 -- The codes behind a backslash, as the code reads them: a hexadecimal digit by its range, and digits from the left at a position
 -- of the bytes. Eight digits at most make a number below 16^8, so that none wraps.
-use Prim.Native.Nat.{ℕ, suc, _+_, _-_, _*_, _^_, _≤_, _<_}
-use mathlib.Core.Path.{_≡_, refl}
-use mathlib.Core.List.{List, [], _∷_}
-use mathlib.Core.Bool.{true, false}
+use Prim.Native.Nat.{ℕ, _+_, _-_, _*_, _^_, _≤_, _<_}
+use mathlib.Core.Path.{_≡_}
+use mathlib.Core.List.{List}
+use mathlib.Core.Bool.{false}
 use native.Mathlib.Nat.{pow-suc, pow-le-pow-right}
 use native.Mathlib.Numerals.{add-one}
 use native.Mathlib.Omega.{arith}
-use lib.Dec.{leb}
 use lib.ListN.{length, drop, getD, drop-of-length-le}
 use lib.Seq.{drop-cons}
 use borrow.Author.Tests.{le-leb, lt-leb}
 use Rattle.utf8.specs.Utf8.{within}
 use Rattle.utf8.proofs.Ranges.{below, above, inside}
-use Rattle.unescape_pieces.specs.Codes.{digitOf, digitsFrom, codeOf, noScalar}
+use Rattle.unescape_codes.specs.Codes.{digitOf, digitsFrom, codeOf, noScalar}
 
 -- A digit
 module _ (b : ℕ) where

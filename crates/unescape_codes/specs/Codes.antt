@@ -2,7 +2,7 @@
 use Prim.Native.Nat.{ℕ, _+_, _-_, _*_}
 use Prim.Native.Char.{code as byte}
 use mathlib.Core.List.{List, [], _∷_}
-use mathlib.Core.Bool.{Bool, true, false, cond, _&&_, _||_}
+use mathlib.Core.Bool.{cond}
 use lib.Dec.{eqb, leb}
 use lib.ListN.{length}
 use Rattle.utf8.specs.Utf8.{within}

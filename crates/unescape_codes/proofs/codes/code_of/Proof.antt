@@ -1,10 +1,10 @@
 -- `code_of` is its definition by the number of bytes (proofs/Digits).
 use mathlib.Core.Path.{sym, _∙_}
 use native.Mathlib.Omega.{arith}
-use Rattle.unescape_pieces.proofs.Digits.{none, long, some}
+use Rattle.unescape_codes.proofs.Digits.{none, long, some}
 use borrow.Author.Needs.{needs}
-use Rattle.unescape_pieces.proofs.codes.code_of.Statement.{statement}
-use Rattle.unescape_pieces.proofs.codes.code_of.Tie as tie
+use Rattle.unescape_codes.proofs.codes.code_of.Statement.{statement}
+use Rattle.unescape_codes.proofs.codes.code_of.Tie as tie
 
 returns : tie.Need-returns
 returns c = sym (none _ (c .if1 .taken))

@@ -1,10 +1,10 @@
 -- `digit` goes by the ranges of `digitOf` (proofs/Digits).
 use native.Mathlib.Omega.{arith}
 use Rattle.utf8.proofs.Ranges.{below, above}
-use Rattle.unescape_pieces.proofs.Digits.{numeral, capital, small, no-digit}
+use Rattle.unescape_codes.proofs.Digits.{numeral, capital, small, no-digit}
 use borrow.Author.Needs.{needs}
-use Rattle.unescape_pieces.proofs.codes.digit.Statement.{statement}
-use Rattle.unescape_pieces.proofs.codes.digit.Tie as tie
+use Rattle.unescape_codes.proofs.codes.digit.Statement.{statement}
+use Rattle.unescape_codes.proofs.codes.digit.Tie as tie
 
 cast-result : tie.Need-cast-result
 cast-result c = search needs

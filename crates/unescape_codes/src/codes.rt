@@ -2,7 +2,7 @@
 ghost use mathlib.Core.Path.{_≡_};
 ghost use Prim.Native.Nat.{_≤_};
 ghost use lib.ListN.{length};
-ghost use Rattle.unescape_pieces.specs.Codes.{digitOf, digitsFrom, codeOf, simpleOf};
+ghost use Rattle.unescape_codes.specs.Codes.{digitOf, digitsFrom, codeOf, simpleOf};
 
 // A number that names no scalar value.
 const NO_SCALAR: u32 = 0x110000;
@@ -38,7 +38,7 @@ fn digits_value(h: &[u8]) -> u32
 }
 
 // The number that the bytes between braces name: 1 to 8 digits, so that no number wraps.
-pub(crate) fn code_of(h: &[u8]) -> u32
+pub fn code_of(h: &[u8]) -> u32
     ensures { λ r. ⌜ r ≡ codeOf (now (h .entry)) ⌝ }
 {
     if h.len() == 0 {
@@ -51,7 +51,7 @@ pub(crate) fn code_of(h: &[u8]) -> u32
 }
 
 // The byte that a backslash and b stand for, or 0.
-pub(crate) fn simple_of(b: u8) -> u32
+pub fn simple_of(b: u8) -> u32
     ensures { λ r. ⌜ r ≡ simpleOf b ⌝ }
 {
     match b {

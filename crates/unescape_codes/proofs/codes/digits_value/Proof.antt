@@ -5,11 +5,11 @@ use mathlib.Core.Path.{_≡_, refl, sym, _∙_}
 use native.Mathlib.Nat.{one-le-pow}
 use native.Mathlib.Omega.{arith}
 use lib.ListN.{length, drop}
-use Rattle.unescape_pieces.specs.Codes.{digitsFrom}
-use Rattle.unescape_pieces.proofs.Digits.{more, bad, end, grows, room}
+use Rattle.unescape_codes.specs.Codes.{digitsFrom}
+use Rattle.unescape_codes.proofs.Digits.{more, bad, end, grows, room}
 use borrow.Author.Needs.{needs}
-use Rattle.unescape_pieces.proofs.codes.digits_value.Statement.{statement}
-use Rattle.unescape_pieces.proofs.codes.digits_value.Tie as tie
+use Rattle.unescape_codes.proofs.codes.digits_value.Statement.{statement}
+use Rattle.unescape_codes.proofs.codes.digits_value.Tie as tie
 
 abbrev Inv-loop : tie.InvT-loop
 Inv-loop h n₀ i₀ n i = (i ≤ length h) × (n < 16 ^ i) × (digitsFrom 0 h ≡ digitsFrom n (drop i h))
