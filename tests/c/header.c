@@ -197,6 +197,8 @@ static const struct text texts[] = {
      {CONL_TEXT_REFUSED, CONL_SHORT_BUFFER, 7, 0, 0}, ""},
     {TEXT("k = \"\\{00110000}\""), CONL_VALUE, 4, 17, 0, 0, 9,
      {CONL_TEXT_REFUSED, CONL_INVALID_ESCAPE, 7, 5, 16}, ""},
+    {TEXT("k = \"\\{+41}\""), CONL_VALUE, 4, 12, 0, 0, 9,
+     {CONL_TEXT_REFUSED, CONL_INVALID_ESCAPE, 7, 5, 11}, ""},
     {TEXT("k = \"a\\"), CONL_VALUE, 4, 7, 0, 0, 9,
      {CONL_TEXT_REFUSED, CONL_ESCAPE_AT_END, 7, 0, 0}, ""},
     {TEXT("k = \"a\"b"), CONL_VALUE, 4, 8, 0, 0, 9,
