@@ -1,4 +1,4 @@
--- Law: document 01, 'Unescaping': the codes behind a backslash.
+-- Law: document 01, 'Unescaping', and document 02's request 3: the codes behind a backslash.
 use Prim.Native.Nat.{ℕ, _+_, _-_, _*_}
 use Prim.Native.Char.{code as byte}
 use mathlib.Core.List.{List, [], _∷_}
