@@ -34,10 +34,10 @@ use Rattle.tokenizer_claims.specs.Claims.{Text, TokenFits, Fits, All}
 use Rattle.tokenizer_claims.proofs.Claimed.{fit as reading-fit}
 use Rattle.text.specs.Bytes.{shiftedBy}
 use Rattle.unescape_pieces.specs.Meaning.{Meaning, part, bytes, code, refused, meaning}
-use Rattle.unescape_pieces.specs.Source.{sourceAt, sourceOf, sound}
-use Rattle.unescape_pieces.specs.declared.source.Style.{Style}
-use Rattle.unescape_pieces.specs.declared.source.Style.the-variants.{AsIs, Entry, Block}
-use Rattle.unescape_pieces.specs.declared.source.Source.{Source}
+use Rattle.unescape_source.specs.Source.{sourceAt, sourceOf, sound}
+use Rattle.unescape_pieces.specs.declared.start.Style.{Style}
+use Rattle.unescape_pieces.specs.declared.start.Style.the-variants.{AsIs, Entry, Block}
+use Rattle.unescape_source.specs.declared.source.Source.{Source}
 use Rattle.unescape_pieces.proofs.Proper.{Proper, meaning-proper}
 use Rattle.unescape.specs.Unescape.{Unescaped, delivered, meaningIn, unescapeOf}
 use Rattle.unescape.specs.declared.Answer.{Answer}

@@ -17,8 +17,8 @@ use Rattle.unescape_pieces.specs.Meaning.{Meaning, part, bytes, code, refused, 
 use Rattle.unescape_pieces.specs.Pieces.{meaningFrom, startOf}
 use Rattle.unescape_pieces.specs.declared.pieces.Spot.{Spot}
 use Rattle.unescape_pieces.specs.declared.pieces.Spot.the-variants.{Quotes, FirstLine, LaterLine, Break}
-use Rattle.unescape_pieces.specs.declared.source.Style.{Style}
-use Rattle.unescape_pieces.specs.declared.source.Start.the-variants.{Plain as Whole, Pieces}
+use Rattle.unescape_pieces.specs.declared.start.Style.{Style}
+use Rattle.unescape_pieces.specs.declared.start.Start.the-variants.{Plain as Whole, Pieces}
 use Rattle.unescape_pieces.proofs.Starts.{part-means, pieces-mean}
 use Rattle.unescape.specs.Walk.{measuredOf, WrittenFits, bufferAfter}
 use Rattle.unescape.specs.Unescape.{Unescaped, keptBuffer, refusal, delivered}

@@ -11,9 +11,9 @@ use Rattle.tokenizer.specs.Token.{lineOf}
 use Rattle.tokenizer.specs.declared.token.Token.{Token}
 use Rattle.tokenizer.specs.declared.token.Token.the-variants.{Value, MultilineValue}
 use Rattle.unescape_pieces.specs.Meaning.{meaning}
-use Rattle.unescape_pieces.specs.Source.{sourceOf, sound}
-use Rattle.unescape_pieces.specs.declared.source.Style.{Style}
-use Rattle.unescape_pieces.specs.declared.source.Style.the-variants.{AsIs, Entry, Block}
+use Rattle.unescape_source.specs.Source.{sourceOf, sound}
+use Rattle.unescape_pieces.specs.declared.start.Style.{Style}
+use Rattle.unescape_pieces.specs.declared.start.Style.the-variants.{AsIs, Entry, Block}
 use Rattle.unescape_pieces.proofs.Examples.{rules}
 use Rattle.unescape.specs.Unescape.{Unescaped, delivered, unescapeOf}
 use Rattle.unescape.specs.Texts.{styleOf, unescapeTextOf}

@@ -11,8 +11,8 @@ use Rattle.text.proofs.Cases.{by-bool, clash}
 use Rattle.unescape_pieces.specs.Meaning.{meaning}
 use Rattle.unescape_pieces.specs.Pieces.{startOf, meaningFrom}
 use Rattle.unescape_pieces.specs.declared.pieces.Spot.{Spot}
-use Rattle.unescape_pieces.specs.declared.source.Style.{Style}
-use Rattle.unescape_pieces.specs.declared.source.Start.the-variants.{Plain as Whole, Pieces}
+use Rattle.unescape_pieces.specs.declared.start.Style.{Style}
+use Rattle.unescape_pieces.specs.declared.start.Start.the-variants.{Plain as Whole, Pieces}
 use Rattle.unescape.specs.Unescape.{keptBuffer, refusal, delivered}
 use Rattle.unescape.specs.Texts.{unescapeTextOf}
 use Rattle.unescape.specs.declared.Answer.the-variants.{Plain}

@@ -16,11 +16,11 @@ use Rattle.tokenizer.specs.Step.{bytesOf, fitPart}
 use Rattle.tokenizer.specs.declared.token.Token.{Token}
 use Rattle.unescape_pieces.specs.Meaning.{Meaning, part, bytes, code, refused, meaning}
 use Rattle.unescape_pieces.specs.Pieces.{startOf, meaningFrom}
-use Rattle.unescape_pieces.specs.Source.{sourceOf, sound}
-use Rattle.unescape_pieces.specs.declared.source.Style.{Style}
-use Rattle.unescape_pieces.specs.declared.source.Source.{Source}
-use Rattle.unescape_pieces.specs.declared.source.Start.{Start}
-use Rattle.unescape_pieces.specs.declared.source.Start.the-variants.{Plain, Pieces}
+use Rattle.unescape_source.specs.Source.{sourceOf, sound}
+use Rattle.unescape_pieces.specs.declared.start.Style.{Style}
+use Rattle.unescape_source.specs.declared.source.Source.{Source}
+use Rattle.unescape_pieces.specs.declared.start.Start.{Start}
+use Rattle.unescape_pieces.specs.declared.start.Start.the-variants.{Plain, Pieces}
 use Rattle.unescape_pieces.proofs.Starts.{part-means, part-lies, pieces-mean, pieces-lie}
 use Rattle.unescape.specs.Walk.{plainBy}
 use Rattle.unescape.specs.Unescape.{keptBuffer, refusal, delivered, unescapeOf, shownBy, plainOf}

@@ -8,8 +8,8 @@ use lib.Dec.{eqb, ltb}
 use lib.ListN.{length}
 use Rattle.text.specs.Numbers.{maxDocument, tooLong}
 use Rattle.unescape_pieces.specs.Meaning.{meaning}
-use Rattle.unescape_pieces.specs.declared.source.Style.{Style}
-use Rattle.unescape_pieces.specs.declared.source.Style.the-variants.{AsIs, Entry, Block}
+use Rattle.unescape_pieces.specs.declared.start.Style.{Style}
+use Rattle.unescape_pieces.specs.declared.start.Style.the-variants.{AsIs, Entry, Block}
 use Rattle.unescape.specs.Unescape.{Unescaped, keptBuffer, refusal, delivered}
 
 -- how the text of a token of kind k is read: a key's or a value's, a multiline value's, any other

@@ -10,8 +10,8 @@ use Rattle.tokenizer.specs.Token.{lineOf}
 use Rattle.tokenizer.specs.Step.{bytesOf, noPart}
 use Rattle.tokenizer.specs.declared.token.Token.{Token}
 use Rattle.unescape_pieces.specs.Meaning.{Meaning, part, bytes, code, refused, meaning}
-use Rattle.unescape_pieces.specs.Source.{sourceOf, sound}
-use Rattle.unescape_pieces.specs.declared.source.Source.{Source}
+use Rattle.unescape_source.specs.Source.{sourceOf, sound}
+use Rattle.unescape_source.specs.declared.source.Source.{Source}
 use Rattle.unescape.specs.declared.Answer.{Answer}
 use Rattle.unescape.specs.declared.Answer.the-variants.{Plain, Written, Refused}
 

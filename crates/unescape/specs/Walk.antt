@@ -4,8 +4,8 @@ use Prim.Native.Nat.{ℕ, _-_, _≤_}
 use mathlib.Core.List.{List, [], _++_}
 use lib.ListN.{length, take, drop}
 use Rattle.unescape_pieces.specs.Meaning.{Meaning, part, bytes, code, refused}
-use Rattle.unescape_pieces.specs.declared.source.Start.{Start}
-use Rattle.unescape_pieces.specs.declared.source.Start.the-variants.{Plain, Pieces}
+use Rattle.unescape_pieces.specs.declared.start.Start.{Start}
+use Rattle.unescape_pieces.specs.declared.start.Start.the-variants.{Plain, Pieces}
 use Rattle.unescape.specs.declared.walk.Measured.{Measured}
 use Rattle.unescape.specs.declared.walk.Measured.the-variants.{Length}
 use Rattle.unescape.specs.declared.walk.Measured.the-variants.{Code as CodeAt, Refused as RefusedBy}

@@ -24,7 +24,7 @@ use Rattle.tokenizer.specs.declared.token.Token.the-variants.{
   NoValue,
 }
 use Rattle.unescape_pieces.specs.Meaning.{Meaning, part, bytes, code, refused, meaning}
-use Rattle.unescape_pieces.specs.Source.{sourceOf}
+use Rattle.unescape_source.specs.Source.{sourceOf}
 use Rattle.unescape_pieces.proofs.Proper.{Proper, meaning-proper}
 use Rattle.unescape.specs.Unescape.{delivered}
 use Rattle.unescape.specs.Texts.{styleOf}

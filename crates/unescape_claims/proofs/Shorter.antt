@@ -29,9 +29,9 @@ use Rattle.unescape_pieces.specs.Meaning.{
   blockMeaning,
   meaning,
 }
-use Rattle.unescape_pieces.specs.Source.{sourceOf, sound}
-use Rattle.unescape_pieces.specs.declared.source.Style.{Style}
-use Rattle.unescape_pieces.specs.declared.source.Style.the-variants.{AsIs, Entry, Block}
+use Rattle.unescape_source.specs.Source.{sourceOf, sound}
+use Rattle.unescape_pieces.specs.declared.start.Style.{Style}
+use Rattle.unescape_pieces.specs.declared.start.Style.the-variants.{AsIs, Entry, Block}
 use Rattle.unescape.specs.Unescape.{Unescaped, delivered, unescapeOf}
 use Rattle.unescape.specs.declared.Answer.{Answer}
 use Rattle.unescape.specs.declared.Answer.the-variants.{Plain, Written, Refused}

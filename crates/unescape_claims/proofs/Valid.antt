@@ -48,7 +48,7 @@ use Rattle.unescape_pieces.specs.Meaning.{
   blockMeaning,
   meaning,
 }
-use Rattle.unescape_pieces.specs.declared.source.Style.the-variants.{AsIs, Entry, Block}
+use Rattle.unescape_pieces.specs.declared.start.Style.the-variants.{AsIs, Entry, Block}
 use Rattle.unescape_pieces.proofs.Escapes.{simple}
 use Rattle.unescape_claims.specs.Claims.{ValidIn, Valid}
 

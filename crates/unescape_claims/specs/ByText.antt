@@ -11,7 +11,7 @@ use Rattle.text.specs.Numbers.{maxDocument}
 use Rattle.tokenizer.specs.Token.{tokenValues, lineOf}
 use Rattle.tokenizer.specs.Step.{bytesOf}
 use Rattle.tokenizer.specs.declared.token.Token.{Token}
-use Rattle.unescape_pieces.specs.Source.{sourceOf, sound}
+use Rattle.unescape_source.specs.Source.{sourceOf, sound}
 use Rattle.unescape.specs.Unescape.{Unescaped, unescapeOf}
 use Rattle.unescape.specs.Texts.{styleOf, unescapeTextOf}
 use Rattle.unescape.specs.declared.Answer.{Answer}

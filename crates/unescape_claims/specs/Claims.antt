@@ -13,8 +13,8 @@ use Rattle.tokenizer.specs.Step.{noPart}
 use Rattle.tokenizer.specs.declared.token.Token.{Token}
 use Rattle.tokenizer.specs.declared.token.Token.the-variants.{MultilineValue}
 use Rattle.unescape_pieces.specs.Meaning.{Meaning, part, bytes, code, refused, meaning}
-use Rattle.unescape_pieces.specs.Source.{sourceOf}
-use Rattle.unescape_pieces.specs.declared.source.Style.{Style}
+use Rattle.unescape_source.specs.Source.{sourceOf}
+use Rattle.unescape_pieces.specs.declared.start.Style.{Style}
 use Rattle.unescape.specs.Unescape.{unescapeOf}
 use Rattle.unescape.specs.declared.Answer.the-variants.{Written, Refused}
 

@@ -7,9 +7,8 @@ use Rattle.text.specs.Ascii.{ascii}
 use Rattle.text.specs.Bytes.{isBreak, countWhile, startsWith}
 use Rattle.utf8.specs.Scalar.{isScalar, encoding}
 use Rattle.utf8.specs.Utf8.{within, leadOf, followed, charLen}
-use Rattle.tokenizer.specs.declared.token.Token.the-variants.{Comment, Value}
-use Rattle.unescape_pieces.specs.Source.{sourceOf}
 use Rattle.unescape_codes.specs.Codes.{digitOf, digitsFrom, codeOf, simpleOf}
+use Rattle.unescape_pieces.specs.declared.start.Style.the-variants.{AsIs, Entry}
 use Rattle.unescape_pieces.specs.Meaning.{
   Meaning,
   part,
@@ -94,11 +93,11 @@ pub simple-escapes : entryMeaning (ascii "\"\\\"\\\\\\n\\r\\t\"") ≡ bytes (asc
 unfolding rules
 simple-escapes = refl
 
--- a comment `"\n"` says what it is, a value LF
-pub comment-as-it-is : meaning (sourceOf (Comment 1 (record { start = 0; end = 4 })) .style) (ascii "\"\\n\"") [] ≡ part 0 4
-unfolding rules meaning sourceOf
-comment-as-it-is = refl
+-- `"\n"` as it stands, as a comment is read, and as a key or a value is
+pub as-it-is : meaning AsIs (ascii "\"\\n\"") [] ≡ part 0 4
+unfolding rules meaning
+as-it-is = refl
 
-pub value-unescaped : meaning (sourceOf (Value 1 (record { start = 0; end = 4 })) .style) (ascii "\"\\n\"") [] ≡ bytes (ascii "\n")
-unfolding rules meaning sourceOf
-value-unescaped = refl
+pub unescaped : meaning Entry (ascii "\"\\n\"") [] ≡ bytes (ascii "\n")
+unfolding rules meaning
+unescaped = refl

@@ -18,7 +18,7 @@ use Rattle.unescape_pieces.specs.Meaning.{isEmpty}
 use Rattle.unescape_pieces.specs.Pieces.{isLiteral, inBrace, stopped, passing, braceNext, escapeNext, quotedNext, entryStart}
 use Rattle.unescape_pieces.specs.declared.pieces.Spot.the-variants.{Quotes}
 use Rattle.unescape_pieces.specs.declared.pieces.Piece.the-variants.{Run, Scalar, End, Code, Refused}
-use Rattle.unescape_pieces.specs.declared.source.Start.the-variants.{Plain, Pieces}
+use Rattle.unescape_pieces.specs.declared.start.Start.the-variants.{Plain, Pieces}
 
 -- No first byte
 

@@ -29,8 +29,8 @@ use Rattle.unescape_pieces.specs.Meaning.{
   blockMeaning,
   meaning,
 }
-use Rattle.unescape_pieces.specs.declared.source.Style.{Style}
-use Rattle.unescape_pieces.specs.declared.source.Style.the-variants.{AsIs, Entry, Block}
+use Rattle.unescape_pieces.specs.declared.start.Style.{Style}
+use Rattle.unescape_pieces.specs.declared.start.Style.the-variants.{AsIs, Entry, Block}
 
 abbrev pub Proper : ℕ → Meaning → Type 0
 Proper n (part a e) = (a ≤ e) × (e ≤ n)

@@ -12,10 +12,10 @@ use Rattle.text.proofs.Cases.{by-bool, on-cond, and-left}
 use Rattle.text.proofs.Scan.{count-le}
 use Rattle.unescape_pieces.specs.Meaning.{Meaning, part, allLiteral, simplyQuoted, entryMeaning, blockMeaning, meaning}
 use Rattle.unescape_pieces.specs.Pieces.{isLiteral, entryStart, blockStart, startOf, begun, meaningFrom}
-use Rattle.unescape_pieces.specs.declared.source.Style.{Style}
-use Rattle.unescape_pieces.specs.declared.source.Style.the-variants.{AsIs, Entry, Block}
-use Rattle.unescape_pieces.specs.declared.source.Start.{Start}
-use Rattle.unescape_pieces.specs.declared.source.Start.the-variants.{Plain, Pieces}
+use Rattle.unescape_pieces.specs.declared.start.Style.{Style}
+use Rattle.unescape_pieces.specs.declared.start.Style.the-variants.{AsIs, Entry, Block}
+use Rattle.unescape_pieces.specs.declared.start.Start.{Start}
+use Rattle.unescape_pieces.specs.declared.start.Start.the-variants.{Plain, Pieces}
 use Rattle.unescape_pieces.specs.declared.pieces.Spot.{Spot}
 use Rattle.unescape_pieces.specs.declared.pieces.Spot.the-variants.{Quotes}
 use Rattle.unescape_pieces.proofs.Escapes.{neither}

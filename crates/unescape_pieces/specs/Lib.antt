@@ -1,3 +1,2 @@
 pub mod Meaning
-pub mod Source
 pub mod Pieces

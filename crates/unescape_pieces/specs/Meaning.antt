@@ -11,8 +11,8 @@ use Rattle.utf8.specs.Utf8.{charLen}
 use Rattle.utf8.specs.Scalar.{isScalar, encoding}
 use Rattle.text.specs.Numbers.{escapeAtEnd, extraCharacters, unclosedQuotes}
 use Rattle.unescape_codes.specs.Codes.{codeOf, simpleOf}
-use Rattle.unescape_pieces.specs.declared.source.Style.{Style}
-use Rattle.unescape_pieces.specs.declared.source.Style.the-variants.{AsIs, Entry, Block}
+use Rattle.unescape_pieces.specs.declared.start.Style.{Style}
+use Rattle.unescape_pieces.specs.declared.start.Style.the-variants.{AsIs, Entry, Block}
 
 -- a part of the text, the bytes that are written, an invalid escape code with the part that is shown, or a refusal 9, 10 or 11
 pub data Meaning : Type 0 where

@@ -18,10 +18,10 @@ use Rattle.unescape_pieces.specs.declared.pieces.Spot.the-variants.{Quot
 use Rattle.unescape_pieces.specs.declared.pieces.Piece.{Piece}
 use Rattle.unescape_pieces.specs.declared.pieces.Piece.the-variants.{Run, Scalar, End, Code, Refused}
 use Rattle.unescape_pieces.specs.declared.pieces.Next.{Next}
-use Rattle.unescape_pieces.specs.declared.source.Style.{Style}
-use Rattle.unescape_pieces.specs.declared.source.Style.the-variants.{AsIs, Entry, Block}
-use Rattle.unescape_pieces.specs.declared.source.Start.{Start}
-use Rattle.unescape_pieces.specs.declared.source.Start.the-variants.{Plain, Pieces}
+use Rattle.unescape_pieces.specs.declared.start.Style.{Style}
+use Rattle.unescape_pieces.specs.declared.start.Style.the-variants.{AsIs, Entry, Block}
+use Rattle.unescape_pieces.specs.declared.start.Start.{Start}
+use Rattle.unescape_pieces.specs.declared.start.Start.the-variants.{Plain, Pieces}
 
 -- neither `"` nor the byte c
 abbrev pub isBefore : ℕ → ℕ → Bool

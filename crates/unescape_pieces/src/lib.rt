@@ -1,14 +1,11 @@
-// A token's text and how it is read, and one piece of it at a time: bytes as they stand, a scalar value, or why it is refused.
+// A text, one piece at a time: bytes as they stand, a scalar value, or why it is refused.
 mod pieces;
-mod source;
+mod start;
 
 pub use pieces::Next;
 pub use pieces::Piece;
 pub use pieces::Spot;
 pub use pieces::next_piece;
-pub use source::Source;
-pub use source::Start;
-pub use source::Style;
-pub use source::is_sound;
-pub use source::source_of;
-pub use source::start_of;
+pub use start::Start;
+pub use start::Style;
+pub use start::start_of;

@@ -8,8 +8,8 @@ use Rattle.text.proofs.Scan.{count-le}
 use Rattle.unescape_pieces.specs.Pieces.{isLiteral}
 use Rattle.unescape_pieces.proofs.Firsts.{entry-none, entry-bare, entry-pieces, entry-last}
 use borrow.Author.Needs.{needs}
-use Rattle.unescape_pieces.proofs.source.entry_start.Statement.{statement}
-use Rattle.unescape_pieces.proofs.source.entry_start.Tie as tie
+use Rattle.unescape_pieces.proofs.start.entry_start.Statement.{statement}
+use Rattle.unescape_pieces.proofs.start.entry_start.Tie as tie
 
 first-of-requires : tie.Need-first-of-requires
 first-of-requires c κs = search needs

@@ -2,8 +2,8 @@
 use mathlib.Core.Path.{_∙_}
 use Rattle.unescape_pieces.specs.Pieces.{startOf}
 use borrow.Author.Needs.{needs}
-use Rattle.unescape_pieces.proofs.source.start_of.Statement.{statement}
-use Rattle.unescape_pieces.proofs.source.start_of.Tie as tie
+use Rattle.unescape_pieces.proofs.start.start_of.Statement.{statement}
+use Rattle.unescape_pieces.proofs.start.start_of.Tie as tie
 
 enum-told : tie.Need-enum-told
 enum-told c = search needs

@@ -2,8 +2,8 @@
 use borrow.Author.Tests.{eq-eqb, ne-eqb}
 use Rattle.unescape_pieces.specs.Pieces.{blockStart}
 use borrow.Author.Needs.{needs}
-use Rattle.unescape_pieces.proofs.source.block_start.Statement.{statement}
-use Rattle.unescape_pieces.proofs.source.block_start.Tie as tie
+use Rattle.unescape_pieces.proofs.start.block_start.Statement.{statement}
+use Rattle.unescape_pieces.proofs.start.block_start.Tie as tie
 
 line-end-requires : tie.Need-line-end-requires
 line-end-requires c κs = search needs

@@ -19,9 +19,9 @@ use Rattle.tokenizer.specs.declared.token.Token.the-variants.{
   MultilineValue,
   NoValue,
 }
-use Rattle.unescape_pieces.specs.declared.source.Style.{Style}
-use Rattle.unescape_pieces.specs.declared.source.Style.the-variants.{AsIs, Entry, Block}
-use Rattle.unescape_pieces.specs.declared.source.Source.{Source}
+use Rattle.unescape_pieces.specs.declared.start.Style.{Style}
+use Rattle.unescape_pieces.specs.declared.start.Style.the-variants.{AsIs, Entry, Block}
+use Rattle.unescape_source.specs.declared.source.Source.{Source}
 
 -- a token's text, where it has one
 abbrev pub sourceAt : Style → Part → Source

@@ -1,10 +1,9 @@
 -- Kind by kind, each arm is its row of `sourceOf`.
 use mathlib.Core.Path.{_∙_}
--- One arm for each kind.
-use Rattle.unescape_pieces.specs.Source.{sourceOf}
+use Rattle.unescape_source.specs.Source.{sourceOf}
 use borrow.Author.Needs.{needs}
-use Rattle.unescape_pieces.proofs.source.source_of.Statement.{statement}
-use Rattle.unescape_pieces.proofs.source.source_of.Tie as tie
+use Rattle.unescape_source.proofs.source.source_of.Statement.{statement}
+use Rattle.unescape_source.proofs.source.source_of.Tie as tie
 
 enum-known-t : tie.Need-enum-known-t
 enum-known-t c = search needs

@@ -1,9 +1,9 @@
 -- `is_sound` is its definition: the part fits, and its bytes are UTF-8.
 use borrow.Author.Tests.{le-leb, lt-leb}
-use Rattle.unescape_pieces.specs.Source.{sound}
+use Rattle.unescape_source.specs.Source.{sound}
 use borrow.Author.Needs.{needs}
-use Rattle.unescape_pieces.proofs.source.is_sound.Statement.{statement}
-use Rattle.unescape_pieces.proofs.source.is_sound.Tie as tie
+use Rattle.unescape_source.proofs.source.is_sound.Statement.{statement}
+use Rattle.unescape_source.proofs.source.is_sound.Tie as tie
 
 returns : tie.Need-returns
 unfolding sound

@@ -1,0 +1,6 @@
+// A token's text in the document and how it is read, and whether a part of the document may be read.
+mod source;
+
+pub use source::Source;
+pub use source::is_sound;
+pub use source::source_of;

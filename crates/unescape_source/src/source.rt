@@ -1,0 +1,70 @@
+// A token's text, and how it is read.
+use text::Part;
+use tokenizer::Token;
+use unescape_pieces::Style;
+ghost use mathlib.Core.Path.{_≡_};
+ghost use Rattle.tokenizer.specs.Step.{noPart};
+ghost use Rattle.unescape_pieces.specs.declared.start.Style.the-variants.{AsIs};
+ghost use Rattle.unescape_source.specs.Source.{sourceAt as wordedAs, sourceOf, sound};
+
+// A token's text, the empty part at 0 where it has none, and a multiline value's indentation.
+pub struct Source {
+    pub style: Style,
+    pub text: Part,
+    pub indent: Part,
+}
+
+// A text with no indentation.
+fn source_at(style: Style, text: Part) -> Source
+    ensures { λ r. ⌜ r ≡ wordedAs style text ⌝ }
+{
+    Source {
+        style,
+        text,
+        indent: Part { start: 0, end: 0 },
+    }
+}
+
+// A token without a text.
+fn no_source() -> Source
+    ensures { λ r. ⌜ r ≡ wordedAs AsIs noPart ⌝ }
+{
+    source_at(Style::AsIs, Part { start: 0, end: 0 })
+}
+
+// The text of a token, and how it is read.
+pub fn source_of(t: Token) -> Source
+    ensures { λ r. ⌜ r ≡ sourceOf t ⌝ }
+{
+    match t {
+        Token::Comment(_, p) => source_at(Style::AsIs, p),
+        Token::MapKey(_, p) => source_at(Style::Entry, p),
+        Token::Value(_, p) => source_at(Style::Entry, p),
+        Token::MultilineHint(_, p) => source_at(Style::AsIs, p),
+        Token::MultilineValue(_, indent, p) => Source {
+            style: Style::Block,
+            text: p,
+            indent,
+        },
+        Token::Newline(_) => no_source(),
+        Token::Indent(_) => no_source(),
+        Token::Outdent(_) => no_source(),
+        Token::ListItem(_) => no_source(),
+        Token::NoValue(_) => no_source(),
+    }
+}
+
+// Whether p is a part of the document, and UTF-8.
+pub fn is_sound(doc: &[u8], p: Part) -> bool
+    ensures { λ r. ⌜ r ≡ sound (now (doc .entry)) p ⌝ }
+{
+    let start = p.start;
+    let end = p.end;
+    if end < start {
+        return false;
+    }
+    if doc.len() < end {
+        return false;
+    }
+    utf8::is_utf8(&doc[start..end])
+}
