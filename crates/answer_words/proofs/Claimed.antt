@@ -10,6 +10,7 @@ use Rattle.text.specs.declared.bytes.Part.{Part}
 use Rattle.tokenizer.specs.Token.{tokenValues}
 use Rattle.tokenizer.specs.declared.token.Token.{Token}
 use Rattle.tokenizer_words.specs.Rows.{rowOf}
+use Rattle.unescape_source.specs.Source.{sourceIn}
 use Rattle.unescape.specs.Unescape.{unescapeOf}
 use Rattle.unescape.specs.declared.Answer.{Answer}
 use Rattle.unescape.specs.declared.Answer.the-variants as answer
@@ -51,7 +52,7 @@ unfolding textOf
 rows-unescaped d t r o w h = rw (row-token t r, row-told t r, or-true, le-leb 5 (length w) h)
 
 pub texts-over : TextsOver
-unfolding textOf unescapeOf answerWords
+unfolding textOf unescapeOf sourceIn answerWords
 texts-over d r o w l h = rw (lt-ltb 16777216 (length d) l, le-leb 5 (length w) h)
 
 pub found-over : FoundOver

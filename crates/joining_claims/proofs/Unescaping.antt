@@ -3,13 +3,10 @@
 use Prim.Native.Nat.{ℕ, _+_, _-_, _≤_}
 use mathlib.Core.Path.{_≡_, refl, _∙_}
 use mathlib.Core.List.{List, [], _∷_, _++_}
-use mathlib.Core.Bool.{true}
 use native.Mathlib.Omega.{arith}
 use native.Mathlib.Nat.{add-assoc, zero-add}
 use lib.Dec.{leb}
 use lib.ListN.{length, drop, length-append, length-take}
-use borrow.Author.Tests.{le-ltb, le-leb}
-use Rattle.utf8.specs.Utf8.{utf8, owes}
 use Rattle.text.specs.declared.bytes.Part.{Part}
 use Rattle.text.proofs.Cases.{by-bool}
 use Rattle.tokenizer.specs.Token.{lineOf}
@@ -34,7 +31,7 @@ use Rattle.tokenizer_claims.specs.Claims.{Text, TokenFits, Fits, All}
 use Rattle.tokenizer_claims.proofs.Claimed.{fit as reading-fit}
 use Rattle.text.specs.Bytes.{shiftedBy}
 use Rattle.unescape_pieces.specs.Meaning.{Meaning, part, bytes, code, refused, meaning}
-use Rattle.unescape_source.specs.Source.{sourceAt, sourceOf, sound}
+use Rattle.unescape_source.specs.Source.{sourceAt, sourceOf}
 use Rattle.unescape_pieces.specs.declared.start.Style.{Style}
 use Rattle.unescape_pieces.specs.declared.start.Style.the-variants.{AsIs, Entry, Block}
 use Rattle.unescape_source.specs.declared.source.Source.{Source}
@@ -42,35 +39,14 @@ use Rattle.unescape_pieces.proofs.Proper.{Proper, meaning-proper}
 use Rattle.unescape.specs.Unescape.{Unescaped, delivered, meaningIn, unescapeOf}
 use Rattle.unescape.specs.declared.Answer.{Answer}
 use Rattle.unescape.specs.declared.Answer.the-variants.{Plain, Written, Refused}
+use Rattle.unescape_claims.proofs.Readable.{none-text, texts-fit, texts-read}
 use Rattle.joining_claims.specs.Raising.{raiseToken}
 use Rattle.joining_claims.specs.Alike.{Same, Alike}
 use Rattle.joining_claims.specs.Joined.{EachToken}
 use Rattle.joining_claims.specs.Never13.{Not13, Never13}
 use Rattle.joining_claims.proofs.Places.{part-above, part-below}
 
--- A token of a reading is sound, so it is delivered
-
-text-sound : (d : List ℕ) (q : Part) → Text d q → sound d q ≡ true
-unfolding sound
-text-sound d q t = rw (le-leb (q .start) (q .end) (t .within .starts), le-leb (q .end) (length d) (t .within .ends), t .valid)
-
--- the empty part is a text, so every token of a reading has a text and an indentation
-none-text : (d : List ℕ) → Text d noPart
-unfolding utf8 owes
-none-text d = record { within = record { starts = omega arith; ends = omega arith }; valid = refl }
-
-words-fit : (d : List ℕ) (t : Token) → TokenFits d t → Text d (sourceOf t .text) × Text d (sourceOf t .indent)
-unfolding sourceOf
-words-fit d (Newline m) f = (none-text d, none-text d)
-words-fit d (Comment m q) f = (f, none-text d)
-words-fit d (Indent m) f = (none-text d, none-text d)
-words-fit d (Outdent m) f = (none-text d, none-text d)
-words-fit d (ListItem m) f = (none-text d, none-text d)
-words-fit d (MapKey m q) f = (f, none-text d)
-words-fit d (Value m q) f = (f, none-text d)
-words-fit d (MultilineHint m q) f = (f, none-text d)
-words-fit d (MultilineValue m i q) f = (f .1, f .0)
-words-fit d (NoValue m) f = absurd f
+-- A token of a reading may be read, so it is delivered
 
 deliver : List ℕ → Token → List ℕ → Unescaped
 deliver d t o = delivered (meaningIn d (sourceOf t)) (sourceOf t .text .start) (lineOf t) o
@@ -78,8 +54,7 @@ deliver d t o = delivered (meaningIn d (sourceOf t)) (sourceOf t .text .start) (
 unescaped : (d : List ℕ) (t : Token) (o : List ℕ) → length d ≤ 16777216 → Text d (sourceOf t .text) × Text d (sourceOf t .indent)
     → unescapeOf d t o ≡ deliver d t o
 unfolding unescapeOf deliver
-unescaped d t o l f =
-    rw (le-ltb 16777216 (length d) l, text-sound d (sourceOf t .text) (f .0), text-sound d (sourceOf t .indent) (f .1))
+unescaped d t o l f = rw (texts-read d t l f)
 
 -- One meaning, delivered at two places
 
@@ -123,18 +98,18 @@ module _ (p s : List ℕ) where
   there-above : (t : Token) (o : List ℕ) → length (p ++ s) ≤ 16777216 → TokenFits p t → unescapeOf (p ++ s) t o ≡ deliver p t o
   unfolding deliver
   there-above t o l f =
-      let g = words-fit p t f in
+      let g = texts-fit ⊥ p t f in
       unescaped (p ++ s) t o l (text-above (sourceOf t .text) (g .0), text-above (sourceOf t .indent) (g .1))
       ∙ rw (part-above p s (sourceOf t .text) (g .0 .within .starts) (g .0 .within .ends), part-above p s (sourceOf t .indent) (g .1 .within .starts) (g .1 .within .ends))
 
   here-above : (t : Token) (o : List ℕ) → length (p ++ s) ≤ 16777216 → TokenFits p t → unescapeOf p t o ≡ deliver p t o
-  here-above t o l f = unescaped p t o (omega (arith, length-append p s)) (words-fit p t f)
+  here-above t o l f = unescaped p t o (omega (arith, length-append p s)) (texts-fit ⊥ p t f)
 
   answers-above : (t : Token) (o : List ℕ) → TokenFits p t → Same 0 0 (p ++ s) (deliver p t o .answer) p (deliver p t o .answer)
   unfolding deliver
   answers-above t o f =
       let q = sourceOf t .text in
-      let g = words-fit p t f .0 .within in
+      let g = texts-fit ⊥ p t f .0 .within in
       answer-above (meaningIn p (sourceOf t)) (q .start) (lineOf t) (length (bytesOf p q)) o
       (meaning-proper (sourceOf t .style) (bytesOf p q) (bytesOf p (sourceOf t .indent)))
       (omega (arith, g .starts, g .ends, length-take (q .end - q .start) (drop (q .start) p)))
@@ -241,7 +216,7 @@ token-not13 : (d : List ℕ) (t : Token) → length d ≤ 16777216 → TokenFits
 unfolding deliver
 token-not13 d t l f o =
     let s = bytesOf d (sourceOf t .text) in
-    rw (unescaped d t o l (words-fit d t f))
+    rw (unescaped d t o l (texts-fit ⊥ d t f))
     (delivered-not13 (meaningIn d (sourceOf t)) (length s) (sourceOf t .text .start) (lineOf t) o
     (meaning-proper (sourceOf t .style) s (bytesOf d (sourceOf t .indent))))
 

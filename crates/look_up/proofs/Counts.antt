@@ -3,6 +3,7 @@ use Prim.Native.Nat.{ℕ, suc, _+_, _≤_}
 use mathlib.Core.List.{List}
 use native.Mathlib.Omega.{arith}
 use lib.Dec.{eqb}
+use Rattle.text.specs.Bytes.{isSame}
 use Rattle.text.specs.declared.bytes.Part.{Part}
 use Rattle.text.proofs.Cases.{on-cond}
 use Rattle.tokenizer.specs.Step.{bytesOf}
@@ -10,7 +11,6 @@ use Rattle.tokenizer.specs.declared.token.Token.{Token}
 use Rattle.tokenizer.specs.declared.token.Token.the-variants as token
 use Rattle.parser_rules.specs.declared.ruling.Answer.{Answer}
 use Rattle.parser_rules.specs.declared.ruling.Answer.the-variants as answer
-use Rattle.look_up.specs.Entries.{isSame}
 use Rattle.look_up.specs.Search.{onTopKey, onKey, onToken, onAnswer}
 use Rattle.look_up.specs.declared.search.Hit.{Hit}
 use Rattle.look_up.specs.declared.search.Hit.the-variants.{Nothing, At}

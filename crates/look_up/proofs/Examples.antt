@@ -2,11 +2,12 @@
 use Prim.Native.Nat.{ℕ}
 use mathlib.Core.Path.{_≡_, refl}
 use mathlib.Core.List.{List, [], _∷_}
+use Rattle.text.specs.Bytes.{isSame}
 use Rattle.text.specs.Ascii.{ascii}
 use Rattle.tokenizer.proofs.Examples.{part}
 use Rattle.parser.specs.Lists.{topEntries}
 use Rattle.parser.proofs.Examples.{rules as parserRules}
-use Rattle.look_up.specs.Entries.{keysOf, refusalIn, extent, entriesOf, isSame, firstNamed, lookUp}
+use Rattle.look_up.specs.Entries.{keysOf, refusalIn, extent, entriesOf, firstNamed, lookUp}
 use Rattle.look_up.specs.declared.search.Found.{Found}
 use Rattle.look_up.specs.declared.search.Found.the-variants.{Nothing, At, Refused}
 

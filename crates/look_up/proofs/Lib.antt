@@ -1,4 +1,3 @@
-pub mod Same
 pub mod Counts
 pub mod Searched
 pub mod Rows

@@ -7,6 +7,7 @@ use native.Mathlib.Omega.{arith}
 use lib.Dec.{eqb, ltb}
 use lib.ListN.{length}
 use borrow.Author.Tests.{ltb-true, ltb-false}
+use Rattle.text.specs.Bytes.{isSame}
 use Rattle.text.specs.declared.bytes.Part.{Part}
 use Rattle.text.proofs.Cases.{by-bool, on-cond}
 use Rattle.tokenizer.specs.Step.{bytesOf}
@@ -19,7 +20,7 @@ use Rattle.parser_claims.specs.Claims.{Fits, All}
 use Rattle.parser_claims.proofs.Claimed.{fit}
 use Rattle.parser_claims.proofs.Ordered.{Ordered, parse-ordered}
 use Rattle.parser_claims.proofs.Ordered as ordered
-use Rattle.look_up.specs.Entries.{Key, keysOf, refusalIn, extent, entriesOf, isSame, firstNamed, lookUp}
+use Rattle.look_up.specs.Entries.{Key, keysOf, refusalIn, extent, entriesOf, firstNamed, lookUp}
 use Rattle.look_up.specs.declared.search.Found.{Found}
 use Rattle.look_up.specs.declared.search.Found.the-variants.{Nothing, At, Refused}
 use Rattle.look_up.proofs.Searched.{look-up-over}

@@ -6,6 +6,7 @@ use native.Mathlib.Numerals.{add-one}
 use lib.Dec.{eqb}
 use lib.ListN.{length}
 use borrow.Author.Tests.{lt-ltb}
+use Rattle.text.specs.Bytes.{isSame}
 use Rattle.text.specs.declared.bytes.Part.{Part}
 use Rattle.text.proofs.Cases.{by-bool}
 use Rattle.tokenizer.specs.Step.{bytesOf}
@@ -15,7 +16,7 @@ use Rattle.parser.specs.Lists.{topEntries, parse}
 use Rattle.parser_rules.specs.declared.ruling.Answer.{Answer}
 use Rattle.parser_rules.specs.declared.ruling.Answer.the-variants as answer
 use Rattle.parser_claims.proofs.Ordered.{Ordered, last, more}
-use Rattle.look_up.specs.Entries.{Key, keysOf, refusalIn, extent, entriesOf, isSame, firstNamed, lookUp}
+use Rattle.look_up.specs.Entries.{Key, keysOf, refusalIn, extent, entriesOf, firstNamed, lookUp}
 use Rattle.look_up.specs.Search.{closedAt, onTopKey, onKey, onToken, onAnswer}
 use Rattle.look_up.specs.declared.search.Found.{Found}
 use Rattle.look_up.specs.declared.search.Found.the-variants as found

@@ -2,9 +2,9 @@
 -- parser's list. The look-up is the first of them whose bytes are those that are wanted.
 use Prim.Native.Nat.{ℕ}
 use mathlib.Core.List.{List, [], _∷_}
-use mathlib.Core.Bool.{Bool, true, false, cond, _&&_}
-use lib.Dec.{eqb}
+use mathlib.Core.Bool.{cond}
 use lib.ListN.{length}
+use Rattle.text.specs.Bytes.{isSame}
 use Rattle.text.specs.declared.bytes.Part.{Part}
 use Rattle.tokenizer.specs.Step.{bytesOf}
 use Rattle.tokenizer.specs.declared.token.Token.{Token}
@@ -67,12 +67,6 @@ entriesOf n r (k ∷ ks) = record { key = k; found = extent n r k ks } ∷ entri
 -- the top-level entries of a document that have a key
 abbrev pub entries : List ℕ → List Entry
 entries d = entriesOf (length d) (refusalIn (parse d)) (keysOf (topEntries 0 0 (parse d)))
-
-unfoldable pub isSame : List ℕ → List ℕ → Bool
-isSame [] [] = true
-isSame [] (b ∷ t) = false
-isSame (a ∷ s) [] = false
-isSame (a ∷ s) (b ∷ t) = eqb a b && isSame s t
 
 -- the first entry with the bytes w as its key; r where there is none
 unfoldable pub firstNamed : List ℕ → List ℕ → Found → List Entry → Found

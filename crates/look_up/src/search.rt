@@ -5,7 +5,7 @@ use text::Part;
 use tokenizer::State;
 ghost use mathlib.Core.Path.{_≡_};
 ghost use Rattle.tokenizer_claims.specs.Claims.{Within};
-ghost use Rattle.look_up.specs.Entries.{isSame, lookUp, entryOf};
+ghost use Rattle.look_up.specs.Entries.{lookUp, entryOf};
 ghost use Rattle.look_up.specs.Search.{HasRoom, RowFits, closedAt, onKey, onRow};
 
 // What the look-up answers: nothing, or the line of the key with the entry's part of the document, or the parser's refusal
@@ -34,15 +34,6 @@ pub enum Turn {
     Ends(Found),
 }
 
-fn is_same(a: &[u8], b: &[u8]) -> bool
-    ensures { λ r. ⌜ r ≡ isSame (now (a .entry)) (now (b .entry)) ⌝ }
-{
-    if a.len() != b.len() {
-        return false;
-    }
-    text::starts_with(a, b)
-}
-
 // An entry that was hit ends at `end`.
 fn closed(hit: Hit, end: usize) -> Found
     ensures { λ r. ⌜ r ≡ closedAt hit end ⌝ }
@@ -67,7 +58,7 @@ fn on_key(s: Search, line: usize, p: Part, doc: &[u8], wanted: &[u8]) -> Turn
     if let Hit::At(_, _) = hit {
         return Turn::Ends(closed(hit, start));
     }
-    if is_same(&doc[start..end], wanted) {
+    if text::is_same(&doc[start..end], wanted) {
         return Turn::Goes(Search {
             indents: s.indents,
             outdents: s.outdents,

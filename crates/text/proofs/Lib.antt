@@ -3,6 +3,7 @@ pub mod Front
 pub mod Scan
 pub mod Ends
 pub mod Prefix
+pub mod Same
 pub mod Skipped
 pub mod Trimmed
 pub mod Examples

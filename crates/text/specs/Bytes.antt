@@ -1,4 +1,5 @@
--- Law: document 01, 'Bytes and UTF-8': blanks, line breaks, the line's end. A text is the list of its bytes.
+-- Law: document 01, 'Bytes and UTF-8': blanks, line breaks, the line's end; and texts compared. A text is the list of its
+-- bytes.
 use Prim.Native.Nat.{ℕ, zero, suc, _+_}
 use Prim.Native.Char.{code as byte}
 use mathlib.Core.List.{List, [], _∷_}
@@ -44,6 +45,13 @@ unfoldable pub startsWith : List ℕ → List ℕ → Bool
 startsWith [] s = true
 startsWith (a ∷ p) [] = false
 startsWith (a ∷ p) (b ∷ s) = let t = startsWith p s in eqb a b && t
+
+-- the same bytes
+unfoldable pub isSame : List ℕ → List ℕ → Bool
+isSame [] [] = true
+isSame [] (b ∷ t) = false
+isSame (a ∷ s) [] = false
+isSame (a ∷ s) (b ∷ t) = let u = isSame s t in eqb a b && u
 
 -- a part, counted from n bytes further in front
 abbrev pub shiftedBy : ℕ → Part → Part

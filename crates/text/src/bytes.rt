@@ -1,6 +1,6 @@
 use text_scans::same_eights;
 ghost use mathlib.Core.Path.{_≡_};
-ghost use Rattle.text.specs.Bytes.{isBlank, isBreak, firstOf, breakSize, lineEnd, startsWith};
+ghost use Rattle.text.specs.Bytes.{isBlank, isBreak, firstOf, breakSize, lineEnd, startsWith, isSame};
 
 // A part of a text: its bytes from start to before end.
 pub struct Part {
@@ -86,4 +86,14 @@ pub fn starts_with(s: &[u8], p: &[u8]) -> bool
         i += 1;
     }
     true
+}
+
+// Whether two texts have the same bytes.
+pub fn is_same(a: &[u8], b: &[u8]) -> bool
+    ensures { λ r. ⌜ r ≡ isSame (now (a .entry)) (now (b .entry)) ⌝ }
+{
+    if a.len() != b.len() {
+        return false;
+    }
+    starts_with(b, a)
 }

@@ -6,6 +6,7 @@ pub use bytes::First;
 pub use bytes::Part;
 pub use bytes::first_of;
 pub use bytes::is_newline;
+pub use bytes::is_same;
 pub use bytes::is_whitespace;
 pub use bytes::line_end;
 pub use bytes::newline_size;

@@ -11,7 +11,7 @@ use Rattle.tokenizer.specs.Token.{lineOf}
 use Rattle.tokenizer.specs.declared.token.Token.{Token}
 use Rattle.tokenizer.specs.declared.token.Token.the-variants.{Value, MultilineValue}
 use Rattle.unescape_pieces.specs.Meaning.{meaning}
-use Rattle.unescape_source.specs.Source.{sourceOf, sound}
+use Rattle.unescape_source.specs.Source.{sourceOf, sound, sourceIn}
 use Rattle.unescape_pieces.specs.declared.start.Style.{Style}
 use Rattle.unescape_pieces.specs.declared.start.Style.the-variants.{AsIs, Entry, Block}
 use Rattle.unescape_pieces.proofs.Examples.{rules}
@@ -28,7 +28,7 @@ value s = unescapeOf s (Value 1 (part 0 (length s))) (ascii "......")
 
 -- what computing an unescaping unfolds
 unescaped : List ℕ → Token → List ℕ → Unescaped
-unfolding rules owes utf8 lineOf meaning sourceOf sound delivered unescapeOf unescapeTextOf
+unfolding rules owes utf8 lineOf meaning sourceOf sound sourceIn delivered unescapeOf unescapeTextOf
 unescaped d t o = unescapeOf d t o
 
 -- `"\{0010FFFF}"` is written

@@ -1,5 +1,5 @@
 pub mod Filling
-pub mod Turns
+pub mod Measuring
 pub mod Writing
 pub mod Delivery
 pub mod Ruling

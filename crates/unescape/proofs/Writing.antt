@@ -12,7 +12,7 @@ use Rattle.unescape_pieces.specs.declared.pieces.Spot.{Spot}
 use Rattle.unescape_pieces.specs.declared.pieces.Piece.the-variants.{Run, Scalar, End, Code, Refused}
 use Rattle.unescape_pieces.specs.declared.pieces.Next.{Next}
 use Rattle.unescape.proofs.Filling.{Wrote, has-room, write-next, lent, all-written, no-code, no-refusal}
-use Rattle.unescape.proofs.Turns.{meant, run-moves, run-bytes, run-length}
+use Rattle.unescape_pieces.proofs.Turns.{meant, run-moves, run-bytes, run-length}
 
 -- the part of the buffer that is lent has as many bytes as are left
 pub lent-length : (o : List ℕ) (n : ℕ) → length (take (length o - n) (drop n o)) ≡ length o - n

@@ -1,17 +1,19 @@
 -- Law: document 01, 'Unescaping' and 'Numbers by the place where they are checked': a token of a document with a lent
--- buffer. 12, then 13, then 8 to 11, then 14.
+-- buffer. 12 and 13 where it may not be read (unescape_source/specs/Source), then 8 to 11, then 14.
 use Prim.Native.Nat.{ℕ, _+_}
 use mathlib.Core.List.{List, [], _++_}
-use mathlib.Core.Bool.{cond, _&&_}
-use lib.Dec.{leb, ltb}
+use mathlib.Core.Bool.{cond}
+use lib.Dec.{leb}
 use lib.ListN.{length, drop}
-use Rattle.text.specs.Numbers.{maxDocument, invalidEscape, tooLong, unfitToken, shortBuffer}
+use Rattle.text.specs.Numbers.{invalidEscape, shortBuffer}
 use Rattle.tokenizer.specs.Token.{lineOf}
 use Rattle.tokenizer.specs.Step.{bytesOf, noPart}
 use Rattle.tokenizer.specs.declared.token.Token.{Token}
 use Rattle.unescape_pieces.specs.Meaning.{Meaning, part, bytes, code, refused, meaning}
-use Rattle.unescape_source.specs.Source.{sourceOf, sound}
+use Rattle.unescape_source.specs.Source.{sourceIn}
 use Rattle.unescape_source.specs.declared.source.Source.{Source}
+use Rattle.unescape_source.specs.declared.source.Checked.{Checked}
+use Rattle.unescape_source.specs.declared.source.Checked.the-variants as source
 use Rattle.unescape.specs.declared.Answer.{Answer}
 use Rattle.unescape.specs.declared.Answer.the-variants.{Plain, Written, Refused}
 
@@ -40,13 +42,14 @@ delivered (refused r) n l o = keptBuffer (refusal r l) o
 abbrev pub meaningIn : List ℕ → Source → Meaning
 meaningIn d w = meaning (w .style) (bytesOf d (w .text)) (bytesOf d (w .indent))
 
+-- a source on line l, or its refusal
+abbrev pub sourceDelivered : List ℕ → Checked → ℕ → List ℕ → Unescaped
+sourceDelivered d (source.Readable w) l o = delivered (meaningIn d w) (w .text .start) l o
+sourceDelivered d (source.Refused n m) l o = keptBuffer (refusal n m) o
+
 -- a token of a document, unescaped
 unfoldable pub unescapeOf : List ℕ → Token → List ℕ → Unescaped
-unescapeOf d t o =
-    let w = sourceOf t in
-    let u = delivered (meaningIn d w) (w .text .start) (lineOf t) o in
-    cond (ltb maxDocument (length d)) (keptBuffer (refusal tooLong 0) o)
-    (cond (sound d (w .text) && sound d (w .indent)) u (keptBuffer (refusal unfitToken (lineOf t)) o))
+unescapeOf d t o = sourceDelivered d (sourceIn d t) (lineOf t) o
 
 -- the bytes of the part that is answered, else none
 abbrev pub shownBy : List ℕ → Answer → List ℕ

@@ -4,14 +4,13 @@ use crate::walk::Measured;
 use crate::walk::measure;
 use crate::walk::write;
 use text::Part;
-use tokenizer::State;
 use tokenizer::Token;
 use unescape_pieces::Spot;
 use unescape_pieces::Start;
 use unescape_pieces::Style;
 use unescape_pieces::start_of;
-use unescape_source::is_sound;
-use unescape_source::source_of;
+use unescape_source::Checked;
+use unescape_source::source_in;
 ghost use mathlib.Core.Path.{_≡_};
 ghost use Prim.Native.Nat.{_+_, _≤_};
 ghost use lib.ListN.{length, drop};
@@ -92,32 +91,26 @@ pub fn unescape(t: Token, doc: &[u8], out: &mut [u8]) -> Answer
     ensures { λ r. ⌜ r ≡ unescapeOf (now (doc .entry)) t (now (out .entry)) .answer ⌝ }
     ensures { λ _. ⌜ now (out .exit) ≡ unescapeOf (now (doc .entry)) t (now (out .entry)) .buffer ⌝ }
 {
-    if State::MAX_DOCUMENT < doc.len() {
-        return refuse(12, 0);
+    match source_in(t, doc) {
+        Checked::Refused(number, line) => refuse(number, line),
+        Checked::Readable(w) => {
+            let style = w.style;
+            let text = w.text;
+            let indent = w.indent;
+            let from = text.start;
+            let to = text.end;
+            let indent_from = indent.start;
+            let indent_to = indent.end;
+            deliver(
+                style,
+                &doc[from..to],
+                &doc[indent_from..indent_to],
+                from,
+                t.line_number(),
+                out,
+            )
+        }
     }
-    let w = source_of(t);
-    let line = t.line_number();
-    let style = w.style;
-    let text = w.text;
-    let indent = w.indent;
-    if !is_sound(doc, text) {
-        return refuse(13, line);
-    }
-    if !is_sound(doc, indent) {
-        return refuse(13, line);
-    }
-    let from = text.start;
-    let to = text.end;
-    let indent_from = indent.start;
-    let indent_to = indent.end;
-    deliver(
-        style,
-        &doc[from..to],
-        &doc[indent_from..indent_to],
-        from,
-        line,
-        out,
-    )
 }
 
 // The part of a text that is plain, else the empty one.
@@ -134,19 +127,11 @@ fn plain_part<'a>(style: Style, s: &'a [u8]) -> &'a [u8]
 pub fn plain<'a>(t: Token, doc: &'a [u8]) -> &'a [u8]
     ensures { λ r. ⌜ now r ≡ plainOf (now (doc .entry)) t ⌝ }
 {
-    if State::MAX_DOCUMENT < doc.len() {
+    let Checked::Readable(w) = source_in(t, doc) else {
         return &doc[..0];
-    }
-    let w = source_of(t);
+    };
     let style = w.style;
     let text = w.text;
-    let indent = w.indent;
-    if !is_sound(doc, text) {
-        return &doc[..0];
-    }
-    if !is_sound(doc, indent) {
-        return &doc[..0];
-    }
     let from = text.start;
     let to = text.end;
     plain_part(style, &doc[from..to])

@@ -1,7 +1,7 @@
 -- A token's kind says how it is read, and a token is unescaped as its text's bytes are: that is one meaning, delivered at
 -- the text's start and at 0.
 use Prim.Native.Nat.{ℕ}
-use mathlib.Core.Path.{_≡_, refl, _∙_}
+use mathlib.Core.Path.{_≡_, refl, sym, _∙_}
 use mathlib.Core.List.{List}
 use native.Mathlib.Nat.{zero-add}
 use native.Mathlib.Omega.{arith}
@@ -28,7 +28,8 @@ use Rattle.unescape_source.specs.Source.{sourceOf}
 use Rattle.unescape_pieces.proofs.Proper.{Proper, meaning-proper}
 use Rattle.unescape.specs.Unescape.{delivered}
 use Rattle.unescape.specs.Texts.{styleOf}
-use Rattle.unescape.proofs.Ruling.{sound-length, ruled}
+use Rattle.unescape_source.proofs.Sound.{sound-length, both-sound}
+use Rattle.unescape.proofs.Ruling.{ruled}
 use Rattle.unescape.proofs.Given.{text-within}
 use Rattle.unescape_claims.specs.ByText.{unescapedFrom, KindsRead, TokensByText}
 
@@ -58,6 +59,6 @@ tokens-by-text d t o h e f =
     let w = sourceOf t in
     let s = bytesOf d (w .text) in
     let i = bytesOf d (w .indent) in
-    ruled d t o w (lineOf t) refl refl h e f
+    ruled d t o (sym (both-sound d t w refl h refl refl (rw (e, f)))) refl
     ∙ from-start (meaning (w .style) s i) (length s) (w .text .start) (lineOf t) o (meaning-proper (w .style) s i)
     ∙ rw (text-within (w .style) s i (lineOf t) o (rw (le-ltb 16777216 (length s) (omega (arith, sound-length d (w .text) e)), le-ltb 16777216 (length i) (omega (arith, sound-length d (w .indent) f)))))

@@ -2,3 +2,4 @@ pub mod Valid
 pub mod Entries
 pub mod Shorter
 pub mod ByText
+pub mod Readable

@@ -29,10 +29,11 @@ use Rattle.unescape_pieces.specs.Meaning.{
   blockMeaning,
   meaning,
 }
-use Rattle.unescape_source.specs.Source.{sourceOf, sound}
+use Rattle.unescape_source.specs.Source.{sourceOf, sound, sourceIn}
+use Rattle.unescape_source.specs.declared.source.Checked.{Checked}
 use Rattle.unescape_pieces.specs.declared.start.Style.{Style}
 use Rattle.unescape_pieces.specs.declared.start.Style.the-variants.{AsIs, Entry, Block}
-use Rattle.unescape.specs.Unescape.{Unescaped, delivered, unescapeOf}
+use Rattle.unescape.specs.Unescape.{Unescaped, delivered, sourceDelivered, unescapeOf}
 use Rattle.unescape.specs.declared.Answer.{Answer}
 use Rattle.unescape.specs.declared.Answer.the-variants.{Plain, Written, Refused}
 use Rattle.unescape_claims.specs.Claims.{textSize, Shorter, Enough, Met}
@@ -136,7 +137,7 @@ delivered-kept k o (code a e) n l h = λ j q. absurd (omega arith)
 delivered-kept k o (refused r) n l h = λ j q. absurd (omega arith)
 
 token-kept : (d : List ℕ) (t : Token) (o : List ℕ) → KeptIn (textSize t) o (unescapeOf d t o)
-unfolding unescapeOf
+unfolding unescapeOf sourceIn
 token-kept d t o =
     let w = sourceOf t in
     let k = textSize t in
@@ -145,9 +146,10 @@ token-kept d t o =
     let m = meaning (w .style) s i in
     let e = length-take k (drop (w .text .start) d) in
     let f = raised (length s) k m (omega arith) (meaning-most (w .style) s i) in
-    on-cond (KeptIn k o) (ltb 16777216 (length d))
+    let F : Checked → Type 0 = λ c. KeptIn k o (sourceDelivered d c (lineOf t) o) in
+    on-cond F (ltb 16777216 (length d))
     (λ _ j q. absurd (omega arith))
-    (λ _. on-cond (KeptIn k o) (sound d (w .text) && sound d (w .indent))
+    (λ _. on-cond F (sound d (w .text) && sound d (w .indent))
     (λ _. delivered-kept k o m (w .text .start) (lineOf t) f)
     (λ _ j q. absurd (omega arith)))
 
@@ -158,5 +160,5 @@ pub enough : Enough
 enough d t o l p h e = (rw e at (token-kept d t o)) h refl
 
 pub met : Met
-unfolding isBreak countWhile startsWith within leadOf owes utf8 isEmpty linesIn laterLines joinedLines blockMeaning meaning sourceOf sound delivered unescapeOf
+unfolding isBreak countWhile startsWith within leadOf owes utf8 isEmpty linesIn laterLines joinedLines blockMeaning meaning sourceOf sound sourceIn delivered unescapeOf
 met = refl

@@ -4,4 +4,7 @@ pub mod Broken
 pub mod Firsts
 pub mod Walking
 pub mod Starts
+pub mod Turns
+pub mod Walked
+pub mod Ends
 pub mod Proper

@@ -1,4 +1,4 @@
--- A meaning's part lies within its text; no refusal but an invalid code is 8, and none is 13.
+-- A meaning's part lies within its text; no refusal but an invalid code is 8, and none is 12 or 13.
 use Prim.Native.Nat.{ℕ, suc, _+_, _≤_}
 use mathlib.Core.Path.{_≡_, refl}
 use mathlib.Core.List.{List, [], _∷_, _++_}
@@ -36,7 +36,7 @@ abbrev pub Proper : ℕ → Meaning → Type 0
 Proper n (part a e) = (a ≤ e) × (e ≤ n)
 Proper n (bytes w) = Unit {0}
 Proper n (code a e) = Unit {0}
-Proper n (refused r) = (eqb r 8 ≡ false) × (eqb r 13 ≡ false)
+Proper n (refused r) = (eqb r 8 ≡ false) × (eqb r 13 ≡ false) × (eqb r 12 ≡ false)
 
 written-proper : (n : ℕ) (w : List ℕ) (m : Meaning) → Proper n m → Proper n (written w m)
 written-proper n w (part a e) h = h
@@ -46,12 +46,12 @@ written-proper n w (refused r) h = h
 
 closed-proper : (n : ℕ) (r : List ℕ) → Proper n (closed r)
 closed-proper n [] = tt
-closed-proper n (b ∷ r) = (refl, refl)
+closed-proper n (b ∷ r) = (refl, refl, refl)
 
 quoted-proper : (n : ℕ) (l : List ℕ) (m : Mode) (k : ℕ) → Proper n (quoted l m k)
 unfolding quoted
-quoted-proper n [] plain k = (refl, refl)
-quoted-proper n [] (escape s) k = (refl, refl)
+quoted-proper n [] plain k = (refl, refl, refl)
+quoted-proper n [] (escape s) k = (refl, refl, refl)
 quoted-proper n [] (brace s h) k = tt
 quoted-proper n (b ∷ r) plain k =
     on-cond (Proper n) (eqb b 34) (λ e. closed-proper n r)

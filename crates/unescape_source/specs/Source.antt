@@ -1,10 +1,14 @@
--- Law: document 01, 'Unescaping': a token's text and how it is read, and whether a part of the document may be read.
+-- Law: document 01, 'Unescaping' and 'Numbers by the place where they are checked': a token's text and how it is read, and
+-- whether it may be read: 12, then 13.
 use Prim.Native.Nat.{ℕ}
 use mathlib.Core.List.{List}
-use mathlib.Core.Bool.{Bool, _&&_}
+use mathlib.Core.Bool.{Bool, cond, _&&_}
+use lib.Dec.{ltb}
 use lib.ListN.{length}
+use Rattle.text.specs.Numbers.{maxDocument, tooLong, unfitToken}
 use Rattle.utf8.specs.Utf8.{utf8}
 use Rattle.text.specs.declared.bytes.Part.{Part}
+use Rattle.tokenizer.specs.Token.{lineOf}
 use Rattle.tokenizer.specs.Step.{bytesOf, noPart, fitPart}
 use Rattle.tokenizer.specs.declared.token.Token.{Token}
 use Rattle.tokenizer.specs.declared.token.Token.the-variants.{
@@ -22,6 +26,8 @@ use Rattle.tokenizer.specs.declared.token.Token.the-variants.{
 use Rattle.unescape_pieces.specs.declared.start.Style.{Style}
 use Rattle.unescape_pieces.specs.declared.start.Style.the-variants.{AsIs, Entry, Block}
 use Rattle.unescape_source.specs.declared.source.Source.{Source}
+use Rattle.unescape_source.specs.declared.source.Checked.{Checked}
+use Rattle.unescape_source.specs.declared.source.Checked.the-variants.{Readable, Refused}
 
 -- a token's text, where it has one
 abbrev pub sourceAt : Style → Part → Source
@@ -42,3 +48,10 @@ sourceOf (NoValue l) = sourceAt AsIs noPart
 -- a part that does not start after its end, nor end past the document, and is UTF-8; else 13
 unfoldable pub sound : List ℕ → Part → Bool
 sound d p = fitPart (length d) p && utf8 (bytesOf d p)
+
+-- a token's source, where the document is within its limit and both parts are sound
+unfoldable pub sourceIn : List ℕ → Token → Checked
+sourceIn d t =
+    let w = sourceOf t in
+    cond (ltb maxDocument (length d)) (Refused tooLong 0)
+    (cond (sound d (w .text) && sound d (w .indent)) (Readable w) (Refused unfitToken (lineOf t)))

@@ -1,6 +1,8 @@
-// A token's text in the document and how it is read, and whether a part of the document may be read.
+// A token's text in the document and how it is read, and whether it may be read.
 mod source;
 
+pub use source::Checked;
 pub use source::Source;
 pub use source::is_sound;
+pub use source::source_in;
 pub use source::source_of;

@@ -5,6 +5,7 @@ pub mod Skipped
 pub mod Rows
 pub mod Wide
 pub mod Scalars
+pub mod Encoded
 pub mod Unicode
 pub mod Trimmed
 pub mod Joins

@@ -1,5 +1,5 @@
--- `measure` adds up the pieces (proofs/Turns). Invariant: `len` and what is measured from the cursor on make up the whole. Measure:
--- twice the bytes left, and one more where a line stands.
+-- `measure` adds up the pieces (proofs/Measuring). Invariant: `len` bytes were passed, and they and the text from the cursor on make
+-- up the whole. Measure: twice the bytes left, and one more where a line stands.
 use Prim.Native.Nat.{_+_, _-_, _*_}
 use mathlib.Core.Path.{ap, _∙_}
 use native.Mathlib.Omega.{arith}
@@ -8,27 +8,23 @@ use Rattle.utf8.specs.declared.scalar.Encoded.{Encoded}
 use Rattle.text.proofs.Front.{from}
 use Rattle.unescape_pieces.specs.Pieces.{meaningFrom}
 use Rattle.unescape_pieces.proofs.Walking.{weight}
-use Rattle.unescape.specs.Walk.{measuredOf}
-use Rattle.unescape.proofs.Turns.{
+use Rattle.unescape_pieces.proofs.Turns.{run-skips, run-moves, scalar-moves, code-within}
+use Rattle.utf8.proofs.Encoded.{encoded-len}
+use Rattle.unescape.proofs.Measuring.{
   Counted,
   none-counted,
-  run-skips,
-  run-moves,
-  scalar-moves,
-  code-within,
-  encoded-len,
   count-run,
   count-scalar,
-  at-end,
-  at-code,
-  at-refused,
+  end-measured,
+  code-measured,
+  refused-measured,
 }
 use borrow.Author.Needs.{needs}
 use Rattle.unescape.proofs.walk.measure.Statement.{statement}
 use Rattle.unescape.proofs.walk.measure.Tie as tie
 
 abbrev Inv-loop : tie.InvT-loop
-Inv-loop start indent s at₀ spot₀ len₀ at spot len = Counted (measuredOf (meaningFrom spot₀ indent (drop at₀ s) at₀)) indent s at spot len
+Inv-loop start indent s at₀ spot₀ len₀ at spot len = Counted (meaningFrom spot₀ indent (drop at₀ s) at₀) indent s at spot len
 
 abbrev μ-loop : tie.MeasureT-loop
 μ-loop start indent s at₀ spot₀ len₀ at spot len = 2 * (length s - at) + weight spot
@@ -37,10 +33,10 @@ loop-holds : tie.Need-loop-holds Inv-loop μ-loop
 loop-holds c = none-counted _ _ _ _ (c .before .before .pre .1)
 
 sub-next-piece : tie.Need-sub-next-piece Inv-loop μ-loop
-sub-next-piece c = c .loop .inv .within
+sub-next-piece c = c .loop .inv .walked .within
 
 part-next-piece-start : tie.Need-part-next-piece-start Inv-loop μ-loop
-part-next-piece-start c = omega (arith, c .loop .inv .within)
+part-next-piece-start c = omega (arith, c .loop .inv .walked .within)
 
 part-next-piece-end : tie.Need-part-next-piece-end Inv-loop μ-loop
 part-next-piece-end c = search needs
@@ -55,7 +51,7 @@ sub-len : tie.Need-sub-len Inv-loop μ-loop
 sub-len c =
     let next-piece = c .before .before .before .before .next-piece in
     let loop-here = c .before .before .before .before .before .before .loop in
-    run-skips _ _ _ _ _ (rw from at (next-piece .ensures)) (loop-here .inv .within) (c .before .before .piece .given .1)
+    run-skips _ _ _ _ _ (rw from at (next-piece .ensures)) (loop-here .inv .walked .within) (c .before .before .piece .given .1)
 
 add-len : tie.Need-add-len Inv-loop μ-loop
 add-len c =
@@ -75,7 +71,7 @@ loop-less c =
     let next-piece = c .before .before .before .before .before .next-piece in
     let loop-here = c .before .before .before .before .before .before .before .loop in
     let piece = c .before .before .before .piece in
-    run-moves _ _ _ _ _ (rw from at (next-piece .ensures)) (loop-here .inv .within) (piece .given .1) .falls
+    run-moves _ _ _ _ _ (rw from at (next-piece .ensures)) (loop-here .inv .walked .within) (piece .given .1) .falls
 
 loop-again : tie.Need-loop-again Inv-loop μ-loop
 loop-again c =
@@ -109,7 +105,7 @@ loop-less-2 c =
     let next-piece = c .before .before .before .before .before .before .next-piece in
     let loop-here = c .before .before .before .before .before .before .before .before .loop in
     let piece2 = c .before .before .before .before .piece2 in
-    scalar-moves _ _ _ _ _ (rw from at (next-piece .ensures)) (loop-here .inv .within) (piece2 .given .1) .falls
+    scalar-moves _ _ _ _ _ (rw from at (next-piece .ensures)) (loop-here .inv .walked .within) (piece2 .given .1) .falls
 
 loop-again-2 : tie.Need-loop-again-2 Inv-loop μ-loop
 loop-again-2 c =
@@ -124,7 +120,7 @@ enum-told c = search needs
 returns : tie.Need-returns Inv-loop μ-loop
 returns c =
     let loop-here = c .before .before .before .before .loop in
-    at-end _ _ (loop-here .inv) (rw from at (c .before .before .next-piece .ensures)) (c .enum-told .given .1)
+    end-measured _ _ (loop-here .inv) (rw from at (c .before .before .next-piece .ensures)) (c .enum-told .given .1)
 
 enum-known-piece-3 : tie.Need-enum-known-piece-3 Inv-loop μ-loop
 enum-known-piece-3 c = search needs
@@ -133,13 +129,13 @@ add-t20 : tie.Need-add-t20 Inv-loop μ-loop
 add-t20 c =
     let next-piece = c .before .before .before .next-piece in
     let loop-here = c .before .before .before .before .before .loop in
-    omega (arith, code-within _ _ _ _ _ (rw from at (next-piece .ensures)) (loop-here .inv .within) (c .before .piece3 .given .1))
+    omega (arith, code-within _ _ _ _ _ (rw from at (next-piece .ensures)) (loop-here .inv .walked .within) (c .before .piece3 .given .1))
 
 returns-2 : tie.Need-returns-2 Inv-loop μ-loop
 returns-2 c =
     let loop-here = c .before .before .before .before .before .loop in
     let next-piece = c .before .before .before .next-piece in
-    at-code _ _ (loop-here .inv) (rw from at (next-piece .ensures)) (c .before .piece3 .given .1)
+    code-measured _ _ (loop-here .inv) (rw from at (next-piece .ensures)) (c .before .piece3 .given .1)
 
 enum-known-piece-4 : tie.Need-enum-known-piece-4 Inv-loop μ-loop
 enum-known-piece-4 c = search needs
@@ -148,7 +144,7 @@ returns-3 : tie.Need-returns-3 Inv-loop μ-loop
 returns-3 c =
     let loop-here = c .before .before .before .before .before .loop in
     let next-piece = c .before .before .before .next-piece in
-    at-refused _ _ (loop-here .inv) (rw from at (next-piece .ensures)) (c .before .piece4 .given .1)
+    refused-measured _ _ (loop-here .inv) (rw from at (next-piece .ensures)) (c .before .piece4 .given .1)
 
 pub measure-spec : {M : Type 1} → statement M
 measure-spec =

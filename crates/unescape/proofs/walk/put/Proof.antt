@@ -1,7 +1,7 @@
 -- `put` copies the bytes that `encode` gives.
 use mathlib.Core.Path.{sym, _∙_}
 use lib.Seq.{length-take-le}
-use Rattle.unescape.proofs.Turns.{encoded-len, encoded-le, encoded-bytes}
+use Rattle.utf8.proofs.Encoded.{encoded-len, encoded-le, encoded-bytes}
 use borrow.Author.Needs.{needs}
 use Rattle.unescape.proofs.walk.put.Statement.{statement}
 use Rattle.unescape.proofs.walk.put.Tie as tie

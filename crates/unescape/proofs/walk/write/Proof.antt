@@ -9,7 +9,7 @@ use Rattle.unescape_pieces.specs.Pieces.{meaningFrom}
 use Rattle.unescape_pieces.proofs.Walking.{weight}
 use Rattle.unescape.specs.Walk.{bufferAfter}
 use Rattle.unescape.proofs.Filling.{Wrote, none-written}
-use Rattle.unescape.proofs.Turns.{run-skips, run-moves, scalar-moves}
+use Rattle.unescape_pieces.proofs.Turns.{run-skips, run-moves, scalar-moves}
 use borrow.Author.Needs.{needs}
 use Rattle.unescape.proofs.walk.write.Statement.{statement}
 use Rattle.unescape.proofs.walk.write.Tie as tie
