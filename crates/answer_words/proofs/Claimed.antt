@@ -9,7 +9,7 @@ use borrow.Author.Tests.{le-leb, lt-leb, lt-ltb, le-ltb}
 use Rattle.text.specs.declared.bytes.Part.{Part}
 use Rattle.tokenizer.specs.Token.{tokenValues}
 use Rattle.tokenizer.specs.declared.token.Token.{Token}
-use Rattle.tokenizer_words.specs.Rows.{rowOf}
+use Rattle.tokenizer_rows.specs.Rows.{rowOf}
 use Rattle.unescape_source.specs.Source.{sourceIn}
 use Rattle.unescape.specs.Unescape.{unescapeOf}
 use Rattle.unescape.specs.declared.Answer.{Answer}

@@ -5,11 +5,11 @@ use mathlib.Core.Path.{_≡_}
 use mathlib.Core.List.{List, [], _∷_, _++_}
 use mathlib.Core.Bool.{true, false}
 use lib.ListN.{length, take, drop}
+use Rattle.text.specs.Bytes.{part}
 use Rattle.text.specs.Numbers.{maxDocument, tooLong}
 use Rattle.tokenizer.specs.Token.{tokenValues}
 use Rattle.tokenizer.specs.declared.token.Token.{Token}
-use Rattle.tokenizer_words.specs.Rows.{rowOf}
-use Rattle.tokenizer_words.specs.Claims.{part}
+use Rattle.tokenizer_rows.specs.Rows.{rowOf}
 use Rattle.unescape.specs.Unescape.{unescapeOf}
 use Rattle.unescape.specs.declared.Answer.{Answer}
 use Rattle.unescape.specs.declared.Answer.the-variants as answer

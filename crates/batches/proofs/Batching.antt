@@ -17,8 +17,8 @@ use Rattle.parser_rules.specs.declared.ruling.Answer.the-variants as answer
 use Rattle.parser.specs.Step.{stepOf}
 use Rattle.parser.specs.declared.state.State.{State}
 use Rattle.parser.proofs.Steps.{unfit as no-fit}
+use Rattle.tokenizer_rows.specs.Rows.{rowsOf, rowsIn}
 use Rattle.tokenizer_words.specs.Words.{pastedIn, wordsOf, storedIn, stateIn, readable}
-use Rattle.tokenizer_words.specs.Rows.{rowsOf, rowsIn}
 use Rattle.batches.specs.Batch.{Taken, taken, Batch, tokenizing, batchOf}
 use Rattle.tokenizer_words.proofs.Pasting.{pasted-room, pasted-front}
 use Rattle.tokenizer_words.proofs.Slots.{words-137}

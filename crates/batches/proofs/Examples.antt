@@ -11,8 +11,8 @@ use Rattle.tokenizer.proofs.Examples.{rules as tokenRules}
 use Rattle.parser_rules.specs.Ruling.{valuesOf}
 use Rattle.parser.specs.Step.{innermostOf, sectionsAfter, countAfter, afterVerdict, stepWith, stepKept, stepOf, fresh}
 use Rattle.parser.proofs.Examples.{rules as parserRules}
+use Rattle.tokenizer_rows.specs.Rows.{rowsOf, rowsIn}
 use Rattle.tokenizer_words.specs.Words.{flag, heldWords, partWords, frontWords, wordsOf, storedIn, partsIn, stateIn, readable, freshIn}
-use Rattle.tokenizer_words.specs.Rows.{rowsOf, rowsIn}
 use Rattle.parser_words.specs.ParserWords.{
   sortWord,
   sortWords,

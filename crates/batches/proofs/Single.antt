@@ -8,7 +8,7 @@ use lib.Dec.{eqb}
 use lib.ListN.{length, drop, length-drop}
 use Rattle.text.proofs.Cases.{by-bool}
 use Rattle.tokenizer.specs.Token.{bare}
-use Rattle.tokenizer_words.specs.Rows.{rowOf, rowBy, rowsOf, rowsIn}
+use Rattle.tokenizer_rows.specs.Rows.{rowOf, rowBy, rowsOf, rowsIn}
 use Rattle.batches.specs.Batch.{taken}
 use Rattle.step_words.specs.Stepping.{stopsAt, Gone, stepIn}
 use Rattle.batches.specs.Walks.{stepping, lastOf}

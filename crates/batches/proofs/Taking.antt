@@ -10,11 +10,11 @@ use lib.ListN.{length, length-append}
 use borrow.Author.Tests.{lt-ltb, le-ltb}
 use Rattle.text.proofs.Cases.{by-bool}
 use Rattle.tokenizer.specs.Token.{Values}
+use Rattle.tokenizer_rows.specs.Rows.{rowOf, rowsOf, rowsIn}
 use Rattle.tokenizer_words.specs.Words.{pasted, pastedIn}
-use Rattle.tokenizer_words.specs.Rows.{rowOf, rowsOf, rowsIn}
 use Rattle.batches.specs.Batch.{Steps, Taken, taken}
+use Rattle.tokenizer_rows.proofs.RowLists.{rows-append, rows-length}
 use Rattle.tokenizer_words.proofs.Pasting.{pasted-room, pasted-after}
-use Rattle.tokenizer_words.proofs.RowLists.{rows-append, rows-length}
 use Rattle.batches.specs.Walks.{lastOf}
 
 -- one row more

@@ -15,8 +15,8 @@ use Rattle.tokenizer.specs.declared.state.State.{State as Tokenizer}
 use Rattle.parser_rules.specs.Ruling.{valuesOf}
 use Rattle.parser.specs.Step.{stepOf}
 use Rattle.parser.specs.declared.state.State.{State}
+use Rattle.tokenizer_rows.specs.Rows.{rowSize, rowsIn}
 use Rattle.tokenizer_words.specs.Words.{tokenizerSize, wordsOf, stateIn, readable}
-use Rattle.tokenizer_words.specs.Rows.{rowSize, rowsIn}
 use Rattle.parser_words.specs.ParserWords.{parserSize, parserWords, parserIn, parserReadable}
 use Rattle.parser_words.specs.Stops.{isUnfit, isStop}
 

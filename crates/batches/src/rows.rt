@@ -3,13 +3,13 @@ use step_words::Layer;
 use step_words::step_in;
 use step_words::stops;
 use tokenizer::State;
-use tokenizer_words::bare_row;
+use tokenizer_rows::bare_row;
 use tokenizer_words::paste;
 ghost use mathlib.Core.Path.{_≡_};
 ghost use Prim.Native.Nat.{_/_, _≤_};
 ghost use lib.ListN.{length, take};
+ghost use Rattle.tokenizer_rows.specs.Rows.{rowBy, rowsIn};
 ghost use Rattle.tokenizer_words.specs.Words.{pastedIn};
-ghost use Rattle.tokenizer_words.specs.Rows.{rowBy, rowsIn};
 ghost use Rattle.batches.specs.Batch.{taken};
 ghost use Rattle.batches.specs.Walks.{stepping, lastOf, nextOf};
 

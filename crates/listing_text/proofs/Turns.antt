@@ -14,7 +14,7 @@ use Rattle.parser_rules.specs.declared.ruling.Answer.{Answer}
 use Rattle.parser_rules.specs.declared.ruling.Answer.the-variants.{End, Token, Refused}
 use Rattle.tokenizer.specs.Token.{tokenValues}
 use Rattle.tokenizer.specs.declared.token.Token.the-variants as token
-use Rattle.tokenizer_words.specs.Rows.{rowOf}
+use Rattle.tokenizer_rows.specs.Rows.{rowOf}
 use Rattle.parser.specs.declared.state.State.{State}
 use Rattle.parser_claims.specs.Rests.{rest, Stands}
 use Rattle.parser_claims.proofs.Rests.{fresh-stands, rest-end, rest-step, step-stands}

@@ -7,7 +7,7 @@ use lib.ListN.{getD}
 use borrow.Author.Tests.{le-leb}
 use Rattle.tokenizer.specs.Token.{tokenValues}
 use Rattle.tokenizer.specs.declared.token.Token.the-variants as token
-use Rattle.tokenizer_words.specs.Rows.{rowOf}
+use Rattle.tokenizer_rows.specs.Rows.{rowOf}
 use Rattle.parser_rules.specs.Ruling.{valuesOf}
 use Rattle.parser_rules.specs.declared.ruling.Answer.{Answer}
 use Rattle.parser_rules.specs.declared.ruling.Answer.the-variants as answer

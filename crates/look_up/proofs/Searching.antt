@@ -12,7 +12,7 @@ use Rattle.parser.specs.Lists.{isEnd}
 use Rattle.parser_rules.specs.declared.ruling.Answer.{Answer}
 use Rattle.parser_rules.specs.declared.ruling.Answer.the-variants as answer
 use Rattle.parser.specs.declared.state.State.{State}
-use Rattle.tokenizer_words.specs.Rows.{rowOf}
+use Rattle.tokenizer_rows.specs.Rows.{rowOf}
 use Rattle.parser_claims.specs.Claims.{Fits}
 use Rattle.parser_claims.specs.Rests.{rest, Stands}
 use Rattle.parser_claims.proofs.Rests.{fresh-stands, rest-end, rest-step, step-fits, step-stands}

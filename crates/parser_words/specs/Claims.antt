@@ -6,6 +6,7 @@ use mathlib.Core.Path.{_≡_}
 use mathlib.Core.List.{List, _∷_, _++_, map}
 use mathlib.Core.Bool.{Bool, true, false}
 use lib.ListN.{length, replicate}
+use Rattle.text.specs.Bytes.{part}
 use Rattle.tokenizer.specs.Token.{tokenValues}
 use Rattle.tokenizer.specs.Step.{fresh as freshTokenizer}
 use Rattle.tokenizer.specs.declared.token.Token.{Token}
@@ -20,9 +21,9 @@ use Rattle.parser_rules.specs.declared.ruling.Kept.{Kept}
 use Rattle.parser_rules.specs.declared.ruling.Kept.the-variants as kept
 use Rattle.parser.specs.Step.{maxSections, noSort, stepOf, fresh}
 use Rattle.parser.specs.declared.state.State.{State}
+use Rattle.tokenizer_rows.specs.Rows.{rowOf, rowsOf}
 use Rattle.tokenizer_words.specs.Words.{wordsOf}
-use Rattle.tokenizer_words.specs.Rows.{rowOf, rowsOf}
-use Rattle.tokenizer_words.specs.Claims.{part, standing}
+use Rattle.tokenizer_words.specs.Claims.{standing}
 use Rattle.tokenizer_words.specs.Claims.{Slots as TokenizerSlots}
 use Rattle.parser_words.specs.ParserWords.{parserWords, parserIn, parserReadable, tokenIn}
 

@@ -20,8 +20,8 @@ use Rattle.parser_rules.specs.declared.ruling.Kept.{Kept}
 use Rattle.parser_rules.specs.declared.ruling.Kept.the-variants as kept
 use Rattle.parser.specs.declared.state.Section.{Section}
 use Rattle.parser.specs.declared.state.State.{State}
+use Rattle.tokenizer_rows.specs.Rows.{rowOf}
 use Rattle.tokenizer_words.specs.Words.{tokenizerSize, flag, wordsOf, stateIn, readable}
-use Rattle.tokenizer_words.specs.Rows.{rowOf}
 
 -- how many words a parser's state has: the tokenizer's, eleven more, and one for each sort, 213
 abbrev pub parserSize : ℕ

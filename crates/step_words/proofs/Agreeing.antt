@@ -21,8 +21,8 @@ use Rattle.parser_rules.specs.declared.ruling.Innermost.{Innermost}
 use Rattle.parser_rules.specs.declared.ruling.Innermost.the-variants.{Missing, Of}
 use Rattle.parser_rules.specs.declared.ruling.Ruling.{Ruling}
 use Rattle.parser_rules.specs.declared.ruling.Ruling.the-variants.{Says, End, Unfit}
+use Rattle.tokenizer_rows.specs.Rows.{rowBy}
 use Rattle.tokenizer_words.specs.Words.{flag}
-use Rattle.tokenizer_words.specs.Rows.{rowBy}
 use Rattle.parser_words.specs.ParserWords.{awaitedWords, keptWords}
 use Rattle.step_words.specs.Outcomes.{outcomeBy}
 use Rattle.step_words.specs.declared.outcome.Outcome.{Outcome}

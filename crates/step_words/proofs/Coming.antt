@@ -27,8 +27,8 @@ use Rattle.parser_rules.specs.declared.ruling.Kept.the-variants as kept
 use Rattle.parser_rules.specs.declared.ruling.Innermost.the-variants.{Of}
 use Rattle.parser.specs.Step.{noSort, innermostOf, cameOf}
 use Rattle.parser.specs.declared.state.Section.{Section}
+use Rattle.tokenizer_rows.specs.Rows.{rowOf}
 use Rattle.tokenizer_words.specs.Words.{wordsOf, stateIn}
-use Rattle.tokenizer_words.specs.Rows.{rowOf}
 use Rattle.tokenizer_words.proofs.Standing.{slots-64}
 use Rattle.tokenizer_words.proofs.Slotted.{step-slots}
 use Rattle.parser_words.specs.ParserWords.{sortWord, sortWords, keptWords}

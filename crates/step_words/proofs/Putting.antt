@@ -14,8 +14,8 @@ use Rattle.parser_rules.specs.declared.ruling.Verdict.{Verdict}
 use Rattle.parser.specs.Step.{ChangeFits, sectionsAfter, countAfter, afterVerdict}
 use Rattle.parser.specs.declared.state.Section.{Section}
 use Rattle.parser.specs.declared.state.State.{State}
+use Rattle.tokenizer_rows.specs.Rows.{rowBy}
 use Rattle.tokenizer_words.specs.Words.{pastedIn, flag, wordsOf}
-use Rattle.tokenizer_words.specs.Rows.{rowBy}
 use Rattle.tokenizer_words.proofs.Pasting.{pasted-room, pasted-front}
 use Rattle.tokenizer_words.proofs.Slots.{words-137}
 use Rattle.tokenizer_words.proofs.Standing.{pasted-behind}

@@ -28,8 +28,8 @@ use Rattle.parser_rules.specs.declared.ruling.Sort.the-variants as sort
 use Rattle.parser_rules.specs.declared.ruling.Change.{Change}
 use Rattle.parser_rules.specs.declared.ruling.Change.the-variants.{Keep, Fix, Open, Close}
 use Rattle.parser.specs.Step.{countAfter}
+use Rattle.tokenizer_rows.specs.Rows.{rowBy}
 use Rattle.tokenizer_words.specs.Words.{pastedIn, flag}
-use Rattle.tokenizer_words.specs.Rows.{rowBy}
 use Rattle.parser_words.specs.ParserWords.{sortWord}
 use Rattle.step_words.specs.declared.outcome.Outcome.{Outcome}
 

@@ -14,8 +14,8 @@ use Rattle.tokenizer_rules.specs.declared.plan.Change.the-variants.{Keep}
 use Rattle.parser_rules.specs.Judging.{judgedBy}
 use Rattle.parser_rules.specs.declared.judging.Judged.{Judged}
 use Rattle.parser_rules.specs.declared.judging.Judged.the-variants.{GivesOn, End}
+use Rattle.tokenizer_rows.specs.Rows.{rowBy}
 use Rattle.tokenizer_words.specs.Words.{pastedIn, stateIn}
-use Rattle.tokenizer_words.specs.Rows.{rowBy}
 use Rattle.step_words.specs.Fronts.{committed}
 use Rattle.step_words.specs.Outcomes.{nothing, outcomeBy, outcomeIn}
 use Rattle.step_words.specs.declared.outcome.Outcome.{Outcome}

@@ -1,18 +1,14 @@
 -- Document 01's words on bytes, computed from the definitions: an edit of rule and code alike is refused here.
-use Prim.Native.Nat.{ℕ, _*_}
+use Prim.Native.Nat.{_*_}
 use Prim.Native.Char.{code as byte}
 use mathlib.Core.Path.{_≡_, refl}
 use mathlib.Core.List.{List, [], _∷_}
 use mathlib.Core.Bool.{Bool, true, false}
 use Rattle.text.specs.Ascii.{ascii}
 use Rattle.text.specs.Numbers.{maxDocument, maxOpen}
-use Rattle.text.specs.Bytes.{isBlank, isBreak, breakSize, countWhile, lineEnd, startsWith}
+use Rattle.text.specs.Bytes.{isBlank, isBreak, breakSize, countWhile, lineEnd, startsWith, part}
 use Rattle.text.specs.Trimming.{dropped, keptEnd, trimmed}
-use Rattle.text.specs.declared.bytes.Part.{Part}
 use Rattle.text.specs.declared.trimming.Dropped.the-variants.{Blanks, BlanksAndBreaks}
-
-abbrev part : ℕ → ℕ → Part
-part a e = record { start = a; end = e }
 
 -- 16 MiB, and 64 sections
 limit : maxDocument ≡ 16 * 1024 * 1024

@@ -53,6 +53,10 @@ isSame [] (b ∷ t) = false
 isSame (a ∷ s) [] = false
 isSame (a ∷ s) (b ∷ t) = let u = isSame s t in eqb a b && u
 
+-- a part by its start and its end
+abbrev pub part : ℕ → ℕ → Part
+part a e = record { start = a; end = e }
+
 -- a part, counted from n bytes further in front
 abbrev pub shiftedBy : ℕ → Part → Part
 shiftedBy n p = record { start = n + p .start; end = n + p .end }

@@ -1,10 +1,6 @@
-// A tokenizer's state in lent words, and the rows of answers, for callers in C and Rust.
-mod rows;
+// A tokenizer's state in lent words, for callers in C and Rust.
 mod words;
 
-pub use rows::bare_row;
-pub use rows::said_row;
-pub use rows::token_row;
 pub use words::flag_of;
 pub use words::fresh;
 pub use words::held_by;

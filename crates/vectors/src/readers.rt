@@ -5,8 +5,8 @@ use parser::Answer;
 use parser::State;
 use parser::Step;
 use reader::Tokenizer;
-use tokenizer_words::bare_row;
-use tokenizer_words::token_row;
+use tokenizer_rows::bare_row;
+use tokenizer_rows::token_row;
 
 // A text of 256 bytes has at most 512 answers; End, then, comes again.
 const STEPS: usize = 514;

@@ -11,9 +11,9 @@ use lib.Seq.{take-all, take-at, length-take-le, drop-drop}
 use borrow.Author.Tests.{ltb-true, ltb-false}
 use Rattle.text.proofs.Cases.{by-bool}
 use Rattle.tokenizer.specs.Token.{Values}
-use Rattle.tokenizer_words.specs.Rows.{rowsOf, rowsIn}
+use Rattle.tokenizer_rows.specs.Rows.{rowsOf, rowsIn}
 use Rattle.batches.specs.Batch.{Batch}
-use Rattle.tokenizer_words.proofs.RowLists.{rows-append, rows-length}
+use Rattle.tokenizer_rows.proofs.RowLists.{rows-append, rows-length}
 use Rattle.words_claims.specs.Calls.{roomIn, given, Calls, last, more, Gives, Gave, Reached, start, next, Serves, NeverRefuses}
 use Rattle.words_claims.specs.Batches.{Room}
 

@@ -2,7 +2,7 @@
 use mathlib.Core.Path.{refl, sym, ap, _∙_}
 use borrow.Author.Tests.{lt-ltb, le-ltb}
 use Rattle.tokenizer.specs.Token.{bare}
-use Rattle.tokenizer_words.specs.Rows.{rowOf}
+use Rattle.tokenizer_rows.specs.Rows.{rowOf}
 use Rattle.batches.specs.Walks.{nextOf}
 use Rattle.step_words.specs.declared.step.Layer.the-variants.{Parser}
 use Rattle.batches.proofs.Single.{none-taken, one-taken}

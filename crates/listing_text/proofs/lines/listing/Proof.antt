@@ -7,7 +7,7 @@ use mathlib.Core.Bool.{true, false}
 use native.Mathlib.Omega.{arith}
 use lib.ListN.{length, getD, replicate}
 use borrow.Author.Needs.{needs}
-use Rattle.tokenizer_words.specs.Rows.{rowOf, rowBy}
+use Rattle.tokenizer_rows.specs.Rows.{rowOf, rowBy}
 use Rattle.parser_rules.specs.Ruling.{valuesOf}
 use Rattle.parser_rules.specs.declared.ruling.Answer.the-variants.{Refused}
 use Rattle.parser.specs.Step.{stepOf}

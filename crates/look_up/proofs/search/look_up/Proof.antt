@@ -6,7 +6,7 @@ use mathlib.Core.List.{List}
 use native.Mathlib.Omega.{arith}
 use lib.ListN.{length, replicate}
 use borrow.Author.Needs.{needs}
-use Rattle.tokenizer_words.specs.Rows.{rowOf, rowBy}
+use Rattle.tokenizer_rows.specs.Rows.{rowOf, rowBy}
 use Rattle.parser_rules.specs.Ruling.{valuesOf}
 use Rattle.parser.specs.Step.{stepOf}
 use Rattle.parser_words.specs.ParserWords.{parserIn}

@@ -4,7 +4,7 @@ use tokenizer::Said;
 use tokenizer::Token;
 ghost use mathlib.Core.Path.{_≡_};
 ghost use Rattle.tokenizer.specs.Token.{bare, withText, tokenValues};
-ghost use Rattle.tokenizer_words.specs.Rows.{rowOf, rowBy};
+ghost use Rattle.tokenizer_rows.specs.Rows.{rowOf, rowBy};
 
 // The row of a number and a line, with no text.
 pub fn bare_row(number: usize, line: usize) -> [usize; 7]

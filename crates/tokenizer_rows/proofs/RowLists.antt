@@ -5,7 +5,7 @@ use mathlib.Core.List.{List, [], _∷_, _++_}
 use native.Mathlib.Omega.{arith}
 use lib.ListN.{length}
 use Rattle.tokenizer.specs.Token.{Values}
-use Rattle.tokenizer_words.specs.Rows.{rowOf, rowsOf}
+use Rattle.tokenizer_rows.specs.Rows.{rowOf, rowsOf}
 
 pub rows-append : (l m : List Values) → rowsOf (l ++ m) ≡ rowsOf l ++ rowsOf m
 unfolding rowsOf

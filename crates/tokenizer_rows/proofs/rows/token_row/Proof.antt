@@ -1,8 +1,8 @@
 -- One answer for each kind.
 use Rattle.tokenizer.specs.Token.{tokenValues}
 use borrow.Author.Needs.{needs}
-use Rattle.tokenizer_words.proofs.rows.token_row.Statement.{statement}
-use Rattle.tokenizer_words.proofs.rows.token_row.Tie as tie
+use Rattle.tokenizer_rows.proofs.rows.token_row.Statement.{statement}
+use Rattle.tokenizer_rows.proofs.rows.token_row.Tie as tie
 
 enum-known-t : tie.Need-enum-known-t
 enum-known-t c = search needs
