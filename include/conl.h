@@ -202,9 +202,10 @@ enum conl_found {
 };
 
 /*
- * Looks up the first key at top level whose text is, byte for byte as it stands in the document,
- * `wanted`. Its entry is the part of the document from the key's first byte to the next top-level
- * key's, or to the document's end.
+ * Looks up the first key at top level whose text, unescaped, is `wanted`: `"width"` is found by
+ * width. A key that conl_unescape refuses with 8 to 11 has no such text, and is passed over. The
+ * entry is the part of the document from the key's first byte, which may be a quote, to the next
+ * top-level key's, or to the document's end.
  *
  * Returns true, with the answer in the first CONL_ANSWER_WORDS words of `answer`. A refusal of the
  * parser is the answer where it comes before the entry's end, and anywhere where there is no such

@@ -279,6 +279,12 @@ static void try_look_up(void)
     CHECK(is_answer(answer, CONL_FOUND_AT, 0, 2, 4, 9));
     CHECK(conl_look_up(TEXT("x=1\nab=2\nc=3"), TEXT("b"), answer, CONL_ANSWER_WORDS));
     CHECK(is_answer(answer, CONL_FOUND_NOTHING, 0, 0, 0, 0));
+    CHECK(conl_look_up(TEXT("\"width\" = 40"), TEXT("width"), answer, CONL_ANSWER_WORDS));
+    CHECK(is_answer(answer, CONL_FOUND_AT, 0, 1, 0, 12));
+    CHECK(conl_look_up(TEXT("\"width\" = 40"), TEXT("\"width\""), answer, CONL_ANSWER_WORDS));
+    CHECK(is_answer(answer, CONL_FOUND_NOTHING, 0, 0, 0, 0));
+    CHECK(conl_look_up(TEXT("\"\\q\"=1\na=2"), TEXT("a"), answer, CONL_ANSWER_WORDS));
+    CHECK(is_answer(answer, CONL_FOUND_AT, 0, 2, 7, 10));
     CHECK(conl_look_up(TEXT("x=1\n\n b"), TEXT("x"), answer, CONL_ANSWER_WORDS));
     CHECK(is_answer(answer, CONL_FOUND_REFUSED, CONL_UNEXPECTED_INDENT, 3, 0, 0));
 }

@@ -3,14 +3,13 @@ use Prim.Native.Nat.{ℕ, suc, _+_, _≤_}
 use mathlib.Core.List.{List}
 use native.Mathlib.Omega.{arith}
 use lib.Dec.{eqb}
-use Rattle.text.specs.Bytes.{isSame}
 use Rattle.text.specs.declared.bytes.Part.{Part}
 use Rattle.text.proofs.Cases.{on-cond}
-use Rattle.tokenizer.specs.Step.{bytesOf}
 use Rattle.tokenizer.specs.declared.token.Token.{Token}
 use Rattle.tokenizer.specs.declared.token.Token.the-variants as token
 use Rattle.parser_rules.specs.declared.ruling.Answer.{Answer}
 use Rattle.parser_rules.specs.declared.ruling.Answer.the-variants as answer
+use Rattle.look_up.specs.Entries.{isNamed}
 use Rattle.look_up.specs.Search.{onTopKey, onKey, onToken, onAnswer}
 use Rattle.look_up.specs.declared.search.Hit.{Hit}
 use Rattle.look_up.specs.declared.search.Hit.the-variants.{Nothing, At}
@@ -30,7 +29,7 @@ Counts n (Ends f) = Unit {0}
 module _ (d w : List ℕ) (s : Search) where
   top-key-counts : (l : ℕ) (p : Part) (h : Hit) → Counts (suc (counted s)) (onTopKey d w s l p h)
   unfolding onTopKey
-  top-key-counts l p Nothing = on-cond (Counts (suc (counted s))) (isSame (bytesOf d p) w) (λ e. omega arith) (λ e. omega arith)
+  top-key-counts l p Nothing = on-cond (Counts (suc (counted s))) (isNamed d w (record { line = l; text = p })) (λ e. omega arith) (λ e. omega arith)
   top-key-counts l p (At m a) = tt
 
   token-counts : (t : Token) → Counts (suc (counted s)) (onToken d w s t)

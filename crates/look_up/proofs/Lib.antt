@@ -3,4 +3,5 @@ pub mod Searched
 pub mod Rows
 pub mod Searching
 pub mod Parts
+pub mod Founded
 pub mod Examples

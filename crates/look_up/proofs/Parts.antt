@@ -7,10 +7,8 @@ use native.Mathlib.Omega.{arith}
 use lib.Dec.{eqb, ltb}
 use lib.ListN.{length}
 use borrow.Author.Tests.{ltb-true, ltb-false}
-use Rattle.text.specs.Bytes.{isSame}
 use Rattle.text.specs.declared.bytes.Part.{Part}
 use Rattle.text.proofs.Cases.{by-bool, on-cond}
-use Rattle.tokenizer.specs.Step.{bytesOf}
 use Rattle.tokenizer.specs.declared.token.Token.the-variants as token
 use Rattle.tokenizer_claims.specs.Claims.{Within}
 use Rattle.parser.specs.Lists.{topEntries}
@@ -20,7 +18,7 @@ use Rattle.parser_claims.specs.Claims.{Fits, All}
 use Rattle.parser_claims.proofs.Claimed.{fit}
 use Rattle.parser_claims.proofs.Ordered.{Ordered, parse-ordered}
 use Rattle.parser_claims.proofs.Ordered as ordered
-use Rattle.look_up.specs.Entries.{Key, keysOf, refusalIn, extent, entriesOf, firstNamed, lookUp}
+use Rattle.look_up.specs.Entries.{Key, keysOf, refusalIn, extent, entriesOf, isNamed, firstNamed, lookUp}
 use Rattle.look_up.specs.declared.search.Found.{Found}
 use Rattle.look_up.specs.declared.search.Found.the-variants.{Nothing, At, Refused}
 use Rattle.look_up.proofs.Searched.{look-up-over}
@@ -80,7 +78,7 @@ module _ (d w : List ℕ) where
   unfolding entriesOf firstNamed
   first-within r f none = f
   first-within r f (one {k = k} a b s) =
-      on-cond (FoundWithin d) (isSame (bytesOf d (k .text)) w) (λ e. extent-within r k b s) (λ e. first-within r f s)
+      on-cond (FoundWithin d) (isNamed d w k) (λ e. extent-within r k b s) (λ e. first-within r f s)
 
   found-within : FoundWithin d (lookUp d w)
   unfolding lookUp

@@ -6,17 +6,15 @@ use native.Mathlib.Numerals.{add-one}
 use lib.Dec.{eqb}
 use lib.ListN.{length}
 use borrow.Author.Tests.{lt-ltb}
-use Rattle.text.specs.Bytes.{isSame}
 use Rattle.text.specs.declared.bytes.Part.{Part}
 use Rattle.text.proofs.Cases.{by-bool}
-use Rattle.tokenizer.specs.Step.{bytesOf}
 use Rattle.tokenizer.specs.declared.token.Token.{Token}
 use Rattle.tokenizer.specs.declared.token.Token.the-variants as token
 use Rattle.parser.specs.Lists.{topEntries, parse}
 use Rattle.parser_rules.specs.declared.ruling.Answer.{Answer}
 use Rattle.parser_rules.specs.declared.ruling.Answer.the-variants as answer
 use Rattle.parser_claims.proofs.Ordered.{Ordered, last, more}
-use Rattle.look_up.specs.Entries.{Key, keysOf, refusalIn, extent, entriesOf, firstNamed, lookUp}
+use Rattle.look_up.specs.Entries.{Key, keysOf, refusalIn, extent, entriesOf, isNamed, firstNamed, lookUp}
 use Rattle.look_up.specs.Search.{closedAt, onTopKey, onKey, onToken, onAnswer}
 use Rattle.look_up.specs.declared.search.Found.{Found}
 use Rattle.look_up.specs.declared.search.Found.the-variants as found
@@ -75,7 +73,7 @@ module _ (d w : List ℕ) where
       → fromHit h (refusalIn l) (record { line = m; text = p } ∷ keysOf (topEntries i o l)) ≡ turned (onTopKey d w (search i o h) m p h) l
   unfolding searched entriesOf firstNamed extent closedAt onTopKey
   on-key i o Nothing m p l =
-      by-bool (isSame (bytesOf d p) w)
+      by-bool (isNamed d w (record { line = m; text = p }))
       (λ s. rw s (keyAt-extent (length d) (refusalIn l) (record { line = m; text = p }) (keysOf (topEntries i o l))))
       (λ s. rw s)
   on-key i o (At k a) m p l = refl

@@ -1,6 +1,6 @@
 -- The look-up's loop: what holds of a search at a state of the parsing, and that a step keeps it or gives what the rule asks.
 use Prim.Native.Nat.{ℕ, _+_, _*_, _≤_, _<_}
-use mathlib.Core.Path.{_≡_, refl, sym, ap, _∙_, subst}
+use mathlib.Core.Path.{_≡_, refl, sym, ap, _∙_}
 use mathlib.Core.List.{List, _∷_}
 use mathlib.Core.Bool.{true, false, false≢true}
 use native.Mathlib.Omega.{arith}
@@ -13,18 +13,17 @@ use Rattle.parser_rules.specs.declared.ruling.Answer.{Answer}
 use Rattle.parser_rules.specs.declared.ruling.Answer.the-variants as answer
 use Rattle.parser.specs.declared.state.State.{State}
 use Rattle.tokenizer_rows.specs.Rows.{rowOf}
-use Rattle.parser_claims.specs.Claims.{Fits}
 use Rattle.parser_claims.specs.Rests.{rest, Stands}
-use Rattle.parser_claims.proofs.Rests.{fresh-stands, rest-end, rest-step, step-fits, step-stands}
+use Rattle.parser_claims.proofs.Rests.{fresh-stands, rest-end, rest-step, step-stands}
 use Rattle.parser_claims.proofs.Ordered.{Ordered, tail, parse-ordered}
 use Rattle.look_up.specs.Entries.{lookUp}
-use Rattle.look_up.specs.Search.{MayCome, onAnswer, onRow, RowFits}
+use Rattle.look_up.specs.Search.{onAnswer, onRow}
 use Rattle.look_up.specs.declared.search.Found.{Found}
 use Rattle.look_up.specs.declared.search.Hit.the-variants.{Nothing}
 use Rattle.look_up.specs.declared.search.Search.{Search}
 use Rattle.look_up.specs.declared.search.Turn.{Turn}
 use Rattle.look_up.specs.declared.search.Turn.the-variants.{Goes, Ends}
-use Rattle.look_up.proofs.Rows.{row-is, row-fits}
+use Rattle.look_up.proofs.Rows.{row-is}
 use Rattle.look_up.proofs.Counts.{counted, answer-counts}
 use Rattle.look_up.proofs.Searched.{searched, turned, searched-end, searched-step}
 
@@ -48,18 +47,7 @@ is-end answer.End e = refl
 is-end (answer.Token t) e = absurd (false≢true e)
 is-end (answer.Refused n l) e = absurd (false≢true e)
 
-fits-comes : (d : List ℕ) (a : Answer) → Fits d a → MayCome d a
-fits-comes d answer.End f = tt
-fits-comes d (answer.Token t) f = f
-fits-comes d (answer.Refused n l) f = tt
-
 module _ (d w : List ℕ) (t : State) (s : Search) (c : Searching d w t s) where
-  comes : MayCome d (stepOf d t .answer)
-  comes =
-      by-bool (isEnd (stepOf d t .answer))
-      (λ e. subst (MayCome d) (sym (is-end _ e)) tt)
-      (λ e. fits-comes d (stepOf d t .answer) (step-fits d t (c .stands) e))
-
   abbrev afterwards : Turn → Found
   afterwards y = turned d w y (rest d (stepOf d t .state))
 
@@ -103,9 +91,6 @@ module _ (d w : List ℕ) (t : State) (s : Search) (c : Searching d w t s) where
 
   -- the turn that the row of the step's answer makes
   module _ {r : List ℕ} (v : r ≡ rowOf (valuesOf (stepOf d t .answer))) where
-    pub may-come : RowFits d r
-    may-come = subst (RowFits d) (sym v) (row-fits d (stepOf d t .answer) comes)
-
     module _ {y : Turn} (q : y ≡ onRow d w s r) where
       the-turn : y ≡ onAnswer d w s (stepOf d t .answer)
       the-turn = q ∙ ap (onRow d w s) v ∙ row-is d w s (stepOf d t .answer)

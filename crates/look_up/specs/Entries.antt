@@ -1,10 +1,9 @@
--- Law: document 01, 'Look-up and listing': the top-level keys of a document with the extents of their entries, over the
--- parser's list. The look-up is the first of them whose bytes are those that are wanted.
+-- Law: document 01, 'Look-up and listing', with request 1 of document 02: the top-level keys of a document with the extents
+-- of their entries, over the parser's list. The look-up is the first of them whose text, unescaped, is what is wanted.
 use Prim.Native.Nat.{ℕ}
 use mathlib.Core.List.{List, [], _∷_}
-use mathlib.Core.Bool.{cond}
+use mathlib.Core.Bool.{Bool, cond}
 use lib.ListN.{length}
-use Rattle.text.specs.Bytes.{isSame}
 use Rattle.text.specs.declared.bytes.Part.{Part}
 use Rattle.tokenizer.specs.Step.{bytesOf}
 use Rattle.tokenizer.specs.declared.token.Token.{Token}
@@ -12,6 +11,7 @@ use Rattle.tokenizer.specs.declared.token.Token.the-variants as token
 use Rattle.parser.specs.Lists.{topEntries, parse}
 use Rattle.parser_rules.specs.declared.ruling.Answer.{Answer}
 use Rattle.parser_rules.specs.declared.ruling.Answer.the-variants as answer
+use Rattle.token_text.specs.Text.{textIn, isText}
 use Rattle.look_up.specs.declared.search.Found.{Found}
 use Rattle.look_up.specs.declared.search.Found.the-variants.{Nothing, At, Refused}
 
@@ -68,10 +68,14 @@ entriesOf n r (k ∷ ks) = record { key = k; found = extent n r k ks } ∷ entri
 abbrev pub entries : List ℕ → List Entry
 entries d = entriesOf (length d) (refusalIn (parse d)) (keysOf (topEntries 0 0 (parse d)))
 
--- the first entry with the bytes w as its key; r where there is none
+-- whether a key's text, unescaped, is the bytes w; a key that unescaping refuses has no name
+abbrev pub isNamed : List ℕ → List ℕ → Key → Bool
+isNamed d w k = isText (textIn d (token.MapKey (k .line) (k .text))) w
+
+-- the first entry whose key has the name w; r where there is none
 unfoldable pub firstNamed : List ℕ → List ℕ → Found → List Entry → Found
 firstNamed d w r [] = r
-firstNamed d w r (e ∷ es) = cond (isSame (bytesOf d (e .key .text)) w) (e .found) (firstNamed d w r es)
+firstNamed d w r (e ∷ es) = cond (isNamed d w (e .key)) (e .found) (firstNamed d w r es)
 
 -- the look-up; over the limit the list is the refusal 12, and so is the answer
 unfoldable pub lookUp : List ℕ → List ℕ → Found

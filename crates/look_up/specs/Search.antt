@@ -1,20 +1,16 @@
 -- Intermediate: the look-up as one pass over the parser's answers, what one answer does to a search. proofs/Searched
 -- and proofs/Searching show that the pass comes to the law's look-up.
 use Prim.Native.Nat.{ℕ, _+_, _-_, _<_, _^_}
-use mathlib.Core.Path.{_≡_}
 use mathlib.Core.List.{List}
 use mathlib.Core.Bool.{cond}
 use lib.Dec.{eqb, leb}
 use lib.ListN.{length, getD}
-use Rattle.text.specs.Bytes.{isSame}
 use Rattle.text.specs.declared.bytes.Part.{Part}
-use Rattle.tokenizer.specs.Step.{bytesOf}
 use Rattle.tokenizer.specs.declared.token.Token.{Token}
 use Rattle.tokenizer.specs.declared.token.Token.the-variants as token
 use Rattle.parser_rules.specs.declared.ruling.Answer.{Answer}
 use Rattle.parser_rules.specs.declared.ruling.Answer.the-variants as answer
-use Rattle.tokenizer_claims.specs.Claims.{Within}
-use Rattle.parser_claims.specs.Claims.{TokenFits}
+use Rattle.look_up.specs.Entries.{isNamed}
 use Rattle.look_up.specs.declared.search.Found.{Found}
 use Rattle.look_up.specs.declared.search.Found.the-variants as found
 use Rattle.look_up.specs.declared.search.Hit.{Hit}
@@ -27,12 +23,6 @@ use Rattle.look_up.specs.declared.search.Turn.the-variants.{Goes, Ends}
 abbrev pub HasRoom : Search → Type 0
 HasRoom s = (s .indents + 1 < 2 ^ 64) × (s .outdents + 1 < 2 ^ 64)
 
--- an answer of a parsing, or its End
-abbrev pub MayCome : List ℕ → Answer → Type 0
-MayCome d answer.End = Unit {0}
-MayCome d (answer.Token t) = TokenFits d t
-MayCome d (answer.Refused n l) = Unit {0}
-
 unfoldable pub closedAt : Hit → ℕ → Found
 closedAt Nothing e = found.Nothing
 closedAt (At l a) e = found.At l (record { start = a; end = e })
@@ -41,7 +31,7 @@ closedAt (At l a) e = found.At l (record { start = a; end = e })
 unfoldable pub onTopKey : List ℕ → List ℕ → Search → ℕ → Part → Hit → Turn
 onTopKey d w s l p (At m a) = Ends (closedAt (At m a) (p .start))
 onTopKey d w s l p Nothing =
-    cond (isSame (bytesOf d p) w) (Goes (record { indents = s .indents; outdents = s .outdents; hit = At l (p .start) })) (Goes s)
+    cond (isNamed d w (record { line = l; text = p })) (Goes (record { indents = s .indents; outdents = s .outdents; hit = At l (p .start) })) (Goes s)
 
 unfoldable pub onKey : List ℕ → List ℕ → Search → ℕ → Part → Turn
 onKey d w s l p = cond (eqb (s .indents) (s .outdents)) (onTopKey d w s l p (s .hit)) (Goes s)
@@ -64,8 +54,8 @@ onAnswer d w s (answer.Token t) = onToken d w s t
 onAnswer d w s (answer.Refused n l) = Ends (found.Refused n l)
 
 -- the same by the row of an answer
-abbrev pub textIn : List ℕ → Part
-textIn r = record { start = getD r 2 0; end = getD r 3 0 }
+abbrev pub rowText : List ℕ → Part
+rowText r = record { start = getD r 2 0; end = getD r 3 0 }
 
 unfoldable pub onRow : List ℕ → List ℕ → Search → List ℕ → Turn
 onRow d w s r =
@@ -74,8 +64,4 @@ onRow d w s r =
     (cond (eqb n 0) (Ends (closedAt (s .hit) (length d)))
     (cond (eqb n 3) (Goes (record { indents = s .indents + 1; outdents = s .outdents; hit = s .hit }))
     (cond (eqb n 4) (Goes (record { indents = s .indents; outdents = s .outdents + 1; hit = s .hit }))
-    (cond (eqb n 6) (onKey d w s (getD r 1 0) (textIn r)) (Goes s)))))
-
--- a key's text lies within the document
-abbrev pub RowFits : List ℕ → List ℕ → Type 0
-RowFits d r = getD r 0 0 ≡ 6 → Within d (textIn r)
+    (cond (eqb n 6) (onKey d w s (getD r 1 0) (rowText r)) (Goes s)))))

@@ -2,11 +2,12 @@
 use batches::next;
 use parser_words::fresh_parser;
 use text::Part;
+use token_text::is_text;
 use tokenizer::State;
+use tokenizer::Token;
 ghost use mathlib.Core.Path.{_≡_};
-ghost use Rattle.tokenizer_claims.specs.Claims.{Within};
 ghost use Rattle.look_up.specs.Entries.{lookUp, entryOf};
-ghost use Rattle.look_up.specs.Search.{HasRoom, RowFits, closedAt, onKey, onRow};
+ghost use Rattle.look_up.specs.Search.{HasRoom, closedAt, onKey, onRow};
 
 // What the look-up answers: nothing, or the line of the key with the entry's part of the document, or the parser's refusal
 // with its number and line.
@@ -46,7 +47,6 @@ fn closed(hit: Hit, end: usize) -> Found
 
 // A top-level key ends the entry that was hit, else it may be the one that is wanted.
 fn on_key(s: Search, line: usize, p: Part, doc: &[u8], wanted: &[u8]) -> Turn
-    requires { ⌜ Within (now doc) p ⌝ }
     ensures { λ r. ⌜ r ≡ onKey (now (doc .entry)) (now (wanted .entry)) s line p ⌝ }
 {
     if s.indents != s.outdents {
@@ -54,11 +54,10 @@ fn on_key(s: Search, line: usize, p: Part, doc: &[u8], wanted: &[u8]) -> Turn
     }
     let hit = s.hit;
     let start = p.start;
-    let end = p.end;
     if let Hit::At(_, _) = hit {
         return Turn::Ends(closed(hit, start));
     }
-    if text::is_same(&doc[start..end], wanted) {
+    if is_text(Token::MapKey(line, p), doc, wanted) {
         return Turn::Goes(Search {
             indents: s.indents,
             outdents: s.outdents,
@@ -71,7 +70,6 @@ fn on_key(s: Search, line: usize, p: Part, doc: &[u8], wanted: &[u8]) -> Turn
 // What the row of an answer does to a search: End and a refusal end it, Indents and Outdents are counted, keys are compared.
 fn on_row(s: Search, row: &[usize; 7], doc: &[u8], wanted: &[u8]) -> Turn
     requires { ⌜ HasRoom s ⌝ }
-    requires { ⌜ RowFits (now doc) (now row) ⌝ }
     ensures { λ r. ⌜ r ≡ onRow (now (doc .entry)) (now (wanted .entry)) s (now (row .entry)) ⌝ }
 {
     let hit = s.hit;
@@ -106,8 +104,9 @@ fn on_row(s: Search, row: &[usize; 7], doc: &[u8], wanted: &[u8]) -> Turn
     }
 }
 
-// The first top-level key whose bytes in the document are those of `wanted`: its line, and the part from its first byte to the
-// next top-level key's, or to the document's end. A refusal that is met before then is the answer; 12 over the limit.
+// The first top-level key whose text, unescaped, is `wanted`: its line, and the part from its first byte, which may be a
+// quote, to the next top-level key's, or to the document's end. A key that unescaping refuses has no name, and is passed
+// over. The parser's refusal, met before the entry's end, is the answer; 12 over the limit.
 pub fn look_up(doc: &[u8], wanted: &[u8]) -> Found
     ensures { λ r. ⌜ r ≡ lookUp (now (doc .entry)) (now (wanted .entry)) ⌝ }
 {

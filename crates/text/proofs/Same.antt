@@ -6,9 +6,9 @@ use mathlib.Core.List.{List, [], _∷_, _++_}
 use mathlib.Core.Bool.{true, false, _&&_, and-false, and-true}
 use lib.Dec.{eqb, ltb, eqb·suc-suc, eqb·zero-suc}
 use lib.ListN.{length, drop}
-use borrow.Author.Tests.{eq-eqb, ne-eqb, ltb-true, ltb-false}
+use borrow.Author.Tests.{eqb-true, eq-eqb, ne-eqb, ltb-true, ltb-false}
 use Rattle.text.specs.Bytes.{startsWith, isSame}
-use Rattle.text.proofs.Cases.{by-bool, clash}
+use Rattle.text.proofs.Cases.{by-bool, clash, and-left, and-right}
 use Rattle.text.proofs.Prefix.{short}
 
 pub starts-append : (a b s : List ℕ) → startsWith (a ++ b) s ≡ startsWith a s && startsWith b (drop (length a) s)
@@ -32,3 +32,11 @@ same-size a s e = same-starts a s ∙ rw (eq-eqb (length a) (length s) e, and-tr
 
 pub other-size : (a s : List ℕ) → (length a ≡ length s → ⊥) → isSame a s ≡ false
 other-size a s e = same-starts a s ∙ rw (ne-eqb (length a) (length s) e, and-false)
+
+pub same-is : (a s : List ℕ) → isSame a s ≡ true → a ≡ s
+unfolding isSame
+same-is [] [] e = refl
+same-is [] (y ∷ s) e = absurd (clash (sym e))
+same-is (x ∷ a) [] e = absurd (clash (sym e))
+same-is (x ∷ a) (y ∷ s) e =
+    rw (eqb-true x y (and-left (eqb x y) (isSame a s) e), same-is a s (and-right (eqb x y) (isSame a s) e))

@@ -3,3 +3,4 @@ pub mod Entries
 pub mod Shorter
 pub mod ByText
 pub mod Readable
+pub mod Texts

@@ -1,3 +1,4 @@
 pub mod Claims
 pub mod ByText
 pub mod Readable
+pub mod Texts

@@ -98,7 +98,7 @@ fn print_table(task: &Task, classes: &[Class], options: &Options) {
 fn print_growth(options: &Options) {
     println!("| parsing and unescaping, ns a byte | 1/64 | 1/8 | 1 |");
     println!("|---|---:|---:|---:|");
-    let [_, _, task] = &tasks::ALL;
+    let [_, _, task, _] = &tasks::ALL;
     let whole = |class: &&Class| class.is_whole();
     for class in documents::USUAL
         .iter()

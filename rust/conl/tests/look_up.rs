@@ -5,17 +5,19 @@ mod documents;
 
 use conl::look_up;
 use original::Token;
+use std::borrow::Cow;
 
 /// The line and the text of an entry, or an error as it is shown.
 type Answer<'doc> = Result<Option<(usize, &'doc [u8])>, String>;
 
-fn by_port<'doc>(document: &'doc [u8], key: &[u8]) -> Answer<'doc> {
-    let entry = look_up(document, key).map_err(|error| error.to_string())?;
+fn by_port<'doc>(document: &'doc [u8], name: &[u8]) -> Answer<'doc> {
+    let entry = look_up(document, name).map_err(|error| error.to_string())?;
     Ok(entry.map(|entry| (entry.lno, entry.text)))
 }
 
-/// From the first top-level key that is `key` to the next top-level key, or to the end.
-fn by_rule<'doc>(document: &'doc [u8], key: &[u8]) -> Answer<'doc> {
+/// From the first top-level key whose text, unescaped, is `name` to the next top-level key, or to the
+/// end.
+fn by_rule<'doc>(document: &'doc [u8], name: &[u8]) -> Answer<'doc> {
     let mut depth = 0;
     let mut found = None;
     for token in original::parse(document) {
@@ -24,9 +26,12 @@ fn by_rule<'doc>(document: &'doc [u8], key: &[u8]) -> Answer<'doc> {
             Token::Outdent(_) => depth -= 1,
             Token::MapKey(lno, text) if depth == 0 => {
                 let place = text.as_ptr() as usize - document.as_ptr() as usize;
+                let unescaped = Token::MapKey(lno, text).unescape();
                 match found {
                     Some((lno, start)) => return Ok(Some((lno, &document[start..place]))),
-                    None if text.as_bytes() == key => found = Some((lno, place)),
+                    None if unescaped.is_ok_and(|text| text.as_bytes() == name) => {
+                        found = Some((lno, place));
+                    }
                     None => {}
                 }
             }
@@ -36,18 +41,21 @@ fn by_rule<'doc>(document: &'doc [u8], key: &[u8]) -> Answer<'doc> {
     Ok(found.map(|(lno, start)| (lno, &document[start..])))
 }
 
-/// Looks up each key of the document, at whatever depth, and some that it may lack.
+/// Looks up each key of the document, at whatever depth, by its text as it stands and unescaped, and
+/// some names that it may lack.
 fn looks_up_alike(document: &[u8]) {
-    let tokens = original::tokenize(document).flatten();
-    let keys = tokens.filter_map(|token| match token {
-        Token::MapKey(_, text) => Some(text),
-        _ => None,
-    });
-    for key in keys.chain(["", "a", "b", "ab", "\"a\"", "漢"]) {
+    let mut names: Vec<_> = ["", "a", "b", "ab", "\"a\"", "漢"].map(Cow::from).into();
+    for token in original::tokenize(document).flatten() {
+        if let Token::MapKey(_, text) = token {
+            names.push(text.into());
+            names.extend(token.unescape());
+        }
+    }
+    for name in names {
         assert_eq!(
-            by_port(document, key.as_bytes()),
-            by_rule(document, key.as_bytes()),
-            "{key:?} in \"{}\"",
+            by_port(document, name.as_bytes()),
+            by_rule(document, name.as_bytes()),
+            "{name:?} in \"{}\"",
             document.escape_ascii()
         );
     }
@@ -80,6 +88,31 @@ fn entries() {
     assert_eq!(by_port(b"", b"a"), Ok(None));
     assert_eq!(by_port(b"= a\n= b", b"a"), Ok(None));
     assert_eq!(by_port(b"a = 1", b"\xFF"), Ok(None));
+}
+
+/// A key is its text: quotes and escapes are none of its name, and a key that is refused has none.
+#[test]
+fn names() {
+    let document = b"\"width\" = 40";
+    assert_eq!(by_port(document, b"width"), Ok(Some((1, &document[..]))));
+    assert_eq!(by_port(document, b"\"width\""), Ok(None));
+    let document = br#""\{61}"=1"#;
+    assert_eq!(by_port(document, b"a"), Ok(Some((1, &document[..]))));
+    let document = b"\"\"=1";
+    assert_eq!(by_port(document, b""), Ok(Some((1, &document[..]))));
+    let document = b"\"\\q\"=1\na=2";
+    assert_eq!(by_port(document, b""), Ok(None));
+    assert_eq!(by_port(document, b"a"), Ok(Some((2, &b"a=2"[..]))));
+    let document = b"a=1\n\"a\"=2";
+    assert_eq!(by_port(document, b"a"), Ok(Some((1, &b"a=1\n"[..]))));
+}
+
+/// A plus is no digit, so a key with one in braces has no name, where the original has one.
+#[test]
+fn plus_in_braces() {
+    let document = br#""\{+61}"=1"#;
+    assert_eq!(by_port(document, b"a"), Ok(None));
+    assert_ne!(by_rule(document, b"a"), Ok(None));
 }
 
 /// An error is the answer where it is met before the entry's end, and not behind it.

@@ -16,7 +16,7 @@ extern "C" {
 /// What a look-up finds.
 #[derive(Clone, Debug, Eq, PartialEq)]
 pub enum Found {
-    /// No such key, and nothing is refused.
+    /// No such key, and the parser refuses nothing.
     Nothing,
     /// The entry of the key on this line: this part of the document.
     At { line: usize, range: Range<usize> },
@@ -24,7 +24,7 @@ pub enum Found {
     Refused { number: usize, line: usize },
 }
 
-/// The first top-level entry of `document` whose key has the bytes of `wanted`, up to the next
+/// The first top-level entry of `document` whose key's text, unescaped, is `wanted`, up to the next
 /// top-level key.
 pub fn look_up(document: &[u8], wanted: &[u8]) -> Found {
     let mut answer = [0; 5];

@@ -17,7 +17,7 @@ use Rattle.batches.specs.Walks.{nextOf}
 use Rattle.step_words.proofs.Laws.{fresh-reads}
 use Rattle.batches.proofs.Walking.{next-steps}
 use Rattle.look_up.proofs.Searched.{look-up-over}
-use Rattle.look_up.proofs.Searching.{Searching, begins, may-come, finds, falls, goes-on}
+use Rattle.look_up.proofs.Searching.{Searching, begins, finds, falls, goes-on}
 use Rattle.look_up.proofs.search.look_up.Statement.{statement}
 use Rattle.look_up.proofs.search.look_up.Tie as tie
 
@@ -67,7 +67,7 @@ on-row-requires : tie.Need-on-row-requires Inv-loop μ-loop
 on-row-requires c κs =
     let loop-here = c .before .before .before .before .loop in
     let i = loop-here .inv .1 in
-    (omega (arith, i .counts), may-come _ _ _ _ i (rowed (c .before)))
+    omega (arith, i .counts)
 
 enum-known-found : tie.Need-enum-known-found Inv-loop μ-loop
 enum-known-found c = search needs

@@ -43,29 +43,20 @@ returns-2 c =
 enum-told-2 : tie.Need-enum-told-2
 enum-told-2 c = search needs
 
-sub-is-same : tie.Need-sub-is-same
-sub-is-same c = search needs
-
-part-is-same-start : tie.Need-part-is-same-start
-part-is-same-start c = search needs
-
-part-is-same-end : tie.Need-part-is-same-end
-part-is-same-end c = search needs
-
-is-same-requires : tie.Need-is-same-requires
-is-same-requires c κs = search needs
+is-text-requires : tie.Need-is-text-requires
+is-text-requires c κs = search needs
 
 returns-3 : tie.Need-returns-3
 unfolding onTopKey
 returns-3 c =
-    let h = c .before .before .before in
-    rw (top _ _ _ _ _ (h .before .before .if1 .left) (h .enum-told2 .given .1), sym (c .before .is-same .ensures) ∙ c .if2 .taken)
+    let h = c .before .before in
+    rw (top _ _ _ _ _ (h .before .before .if1 .left) (h .enum-told2 .given .1), sym (c .before .is-text .ensures) ∙ c .if2 .taken)
 
 returns-4 : tie.Need-returns-4
 unfolding onTopKey
 returns-4 c =
-    let h = c .before .before .before in
-    rw (top _ _ _ _ _ (h .before .before .if1 .left) (h .enum-told2 .given .1), sym (c .before .is-same .ensures) ∙ c .if2 .left)
+    let h = c .before .before in
+    rw (top _ _ _ _ _ (h .before .before .if1 .left) (h .enum-told2 .given .1), sym (c .before .is-text .ensures) ∙ c .if2 .left)
 
 pub on-key-spec : {M : Type 1} → statement M
 on-key-spec =
@@ -76,9 +67,6 @@ on-key-spec =
     closed-requires
     returns-2
     enum-told-2
-    sub-is-same
-    part-is-same-start
-    part-is-same-end
-    is-same-requires
+    is-text-requires
     returns-3
     returns-4)

@@ -31,7 +31,7 @@ element-copy-out-t28 : tie.Need-element-copy-out-t28
 element-copy-out-t28 c = search needs
 
 on-key-requires : tie.Need-on-key-requires
-on-key-requires c κs = let m = c .before .before in m .before .before .before .before .before .before .pre .1 (m .match .keys4)
+on-key-requires c κs = search needs
 
 returns-2 : tie.Need-returns-2
 unfolding onRow
