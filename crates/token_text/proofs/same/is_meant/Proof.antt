@@ -14,13 +14,22 @@ enum-known-a : tie.Need-enum-known-a
 enum-known-a c = search needs
 
 sub-is-same : tie.Need-sub-is-same
-sub-is-same c = let h = part-lies _ _ (sym (c .before .before .before .start-of .ensures) ∙ c .before .a .given .1) in omega arith
+sub-is-same c =
+    let start-of = c .before .before .before .start-of in
+    let h = part-lies _ _ (sym (start-of .ensures) ∙ c .before .a .given .1) in
+    omega arith
 
 part-is-same-start : tie.Need-part-is-same-start
-part-is-same-start c = let h = part-lies _ _ (sym (c .before .before .before .start-of .ensures) ∙ c .before .a .given .1) in omega arith
+part-is-same-start c =
+    let start-of = c .before .before .before .start-of in
+    let h = part-lies _ _ (sym (start-of .ensures) ∙ c .before .a .given .1) in
+    omega arith
 
 part-is-same-end : tie.Need-part-is-same-end
-part-is-same-end c = let h = part-lies _ _ (sym (c .before .before .before .start-of .ensures) ∙ c .before .a .given .1) in omega arith
+part-is-same-end c =
+    let start-of = c .before .before .before .start-of in
+    let h = part-lies _ _ (sym (start-of .ensures) ∙ c .before .a .given .1) in
+    omega arith
 
 is-same-requires : tie.Need-is-same-requires
 is-same-requires c κs = search needs
@@ -29,13 +38,19 @@ enum-known-at : tie.Need-enum-known-at
 enum-known-at c = search needs
 
 is-written-requires : tie.Need-is-written-requires
-is-written-requires c κs = pieces-lie _ _ (sym (c .before .before .before .start-of .ensures) ∙ c .before .at .given .1)
+is-written-requires c κs =
+    let start-of = c .before .before .before .start-of in
+    pieces-lie _ _ (sym (start-of .ensures) ∙ c .before .at .given .1)
 
 returns : tie.Need-returns
-returns c = c .is-same .ensures ∙ plain-meant _ _ _ _ (sym (c .before .before .before .before .before .start-of .ensures) ∙ c .before .before .before .a .given .1)
+returns c =
+    let start-of = c .before .before .before .before .before .start-of in
+    c .is-same .ensures ∙ plain-meant _ _ _ _ (sym (start-of .ensures) ∙ c .before .before .before .a .given .1)
 
 returns-2 : tie.Need-returns-2
-returns-2 c = c .is-written .ensures ∙ pieces-meant _ _ _ _ (sym (c .before .before .before .before .start-of .ensures) ∙ c .before .before .at .given .1)
+returns-2 c =
+    let start-of = c .before .before .before .before .start-of in
+    c .is-written .ensures ∙ pieces-meant _ _ _ _ (sym (start-of .ensures) ∙ c .before .before .at .given .1)
 
 pub is-meant-spec : {M : Type 1} → statement M
 is-meant-spec =

@@ -1,16 +1,18 @@
 -- `is_written` compares piece by piece (proofs/Matching). Invariant: the bytes that were passed are the first `len` wanted ones. Measure: twice
 -- the bytes left, and one more where a line stands.
-use Prim.Native.Nat.{_+_, _-_, _*_}
-use mathlib.Core.Path.{sym, ap, _∙_}
+use Prim.Native.Nat.{ℕ, _+_, _-_, _*_, _≤_}
+use mathlib.Core.Path.{_≡_, sym, ap, _∙_}
+use mathlib.Core.List.{List}
 use native.Mathlib.Omega.{arith}
 use lib.ListN.{length, drop}
 use lib.Seq.{length-take-le}
 use borrow.Author.Tests.{not-true, not-false}
 use Rattle.utf8.specs.declared.scalar.Encoded.{Encoded}
 use Rattle.text.proofs.Front.{from}
-use Rattle.unescape_pieces.specs.Pieces.{meaningFrom}
+use Rattle.unescape_pieces.specs.Pieces.{meaningFrom, nextOf}
+use Rattle.unescape_pieces.specs.declared.pieces.Piece.the-variants.{Run}
 use Rattle.unescape_pieces.proofs.Walking.{weight}
-use Rattle.unescape_pieces.proofs.Ends.{pieces-end}
+use Rattle.unescape_pieces.proofs.Ends.{Ends, pieces-end}
 use Rattle.unescape_pieces.proofs.Turns.{run-skips, run-moves, scalar-moves, run-bytes}
 use Rattle.utf8.proofs.Encoded.{encoded-len, encoded-bytes, encoded-le}
 use Rattle.token_text.proofs.Matching.{
@@ -33,6 +35,34 @@ Inv-loop start indent s wanted at₀ spot₀ len₀ at spot len = Matched (meani
 
 abbrev μ-loop : tie.MeasureT-loop
 μ-loop start indent s wanted at₀ spot₀ len₀ at spot len = 2 * (length s - at) + weight spot
+
+-- the piece at the cursor
+module _ (k : tie.After-next-piece Inv-loop μ-loop) where
+  abbrev here : tie.At-loop Inv-loop μ-loop
+  here = k .before .before
+
+  abbrev entered : tie.Start Inv-loop μ-loop
+  entered = here .before .before .before .before
+
+  abbrev indent : List ℕ
+  indent = entered .args .indent .now
+
+  abbrev text : List ℕ
+  text = entered .args .s .now
+
+  came : k .next-piece .result ≡ nextOf (here .loop .spot) indent (drop (here .loop .at) text)
+  came = rw from at (k .next-piece .ensures)
+
+  -- the pieces make up no part
+  ends : Ends (length text) (meaningFrom (entered .args .first) indent (drop (entered .args .start) text) (entered .args .start))
+  ends = pieces-end _ _ _ _ (entered .pre)
+
+  -- a run lies within the text
+  run-lies : {n : ℕ} → k .next-piece .result .piece ≡ Run n
+      → (n ≤ k .next-piece .result .pass) × (here .loop .at + k .next-piece .result .pass ≤ length text)
+  run-lies p =
+      let h = here .loop .inv .walked .within in
+      (run-skips _ _ _ _ _ came h p, run-moves _ _ _ _ _ came h p .within)
 
 loop-holds : tie.Need-loop-holds Inv-loop μ-loop
 loop-holds c = none-matched _ _ _ _ _ (c .before .before .before .pre)
@@ -62,40 +92,81 @@ part-starts-with-end : tie.Need-part-starts-with-end Inv-loop μ-loop
 part-starts-with-end c = search needs
 
 add-starts-with : tie.Need-add-starts-with Inv-loop μ-loop
-add-starts-with c = let m = run-moves _ _ _ _ _ (rw from at (c .before .before .before .before .next-piece .ensures)) (c .before .before .before .before .before .before .loop .inv .walked .within) (c .before .before .piece .given .1) in let k = run-skips _ _ _ _ _ (rw from at (c .before .before .before .before .next-piece .ensures)) (c .before .before .before .before .before .before .loop .inv .walked .within) (c .before .before .piece .given .1) in omega arith
+add-starts-with c =
+    let k = c .before .before .before .before in
+    let piece = c .before .before .piece in
+    let l = run-lies k (piece .given .1) in
+    omega arith
 
 add-starts-with-2 : tie.Need-add-starts-with-2 Inv-loop μ-loop
-add-starts-with-2 c = let m = run-moves _ _ _ _ _ (rw from at (c .before .before .before .before .next-piece .ensures)) (c .before .before .before .before .before .before .loop .inv .walked .within) (c .before .before .piece .given .1) in let k = run-skips _ _ _ _ _ (rw from at (c .before .before .before .before .next-piece .ensures)) (c .before .before .before .before .before .before .loop .inv .walked .within) (c .before .before .piece .given .1) in omega arith
+add-starts-with-2 c =
+    let k = c .before .before .before .before in
+    let piece = c .before .before .piece in
+    let l = run-lies k (piece .given .1) in
+    omega arith
 
 sub-starts-with-2 : tie.Need-sub-starts-with-2 Inv-loop μ-loop
-sub-starts-with-2 c = let m = run-moves _ _ _ _ _ (rw from at (c .before .before .before .before .next-piece .ensures)) (c .before .before .before .before .before .before .loop .inv .walked .within) (c .before .before .piece .given .1) in let k = run-skips _ _ _ _ _ (rw from at (c .before .before .before .before .next-piece .ensures)) (c .before .before .before .before .before .before .loop .inv .walked .within) (c .before .before .piece .given .1) in omega arith
+sub-starts-with-2 c =
+    let k = c .before .before .before .before in
+    let piece = c .before .before .piece in
+    let l = run-lies k (piece .given .1) in
+    omega arith
 
 part-starts-with-start-2 : tie.Need-part-starts-with-start-2 Inv-loop μ-loop
-part-starts-with-start-2 c = let m = run-moves _ _ _ _ _ (rw from at (c .before .before .before .before .next-piece .ensures)) (c .before .before .before .before .before .before .loop .inv .walked .within) (c .before .before .piece .given .1) in let k = run-skips _ _ _ _ _ (rw from at (c .before .before .before .before .next-piece .ensures)) (c .before .before .before .before .before .before .loop .inv .walked .within) (c .before .before .piece .given .1) in omega arith
+part-starts-with-start-2 c =
+    let k = c .before .before .before .before in
+    let piece = c .before .before .piece in
+    let l = run-lies k (piece .given .1) in
+    omega arith
 
 part-starts-with-end-2 : tie.Need-part-starts-with-end-2 Inv-loop μ-loop
-part-starts-with-end-2 c = let m = run-moves _ _ _ _ _ (rw from at (c .before .before .before .before .next-piece .ensures)) (c .before .before .before .before .before .before .loop .inv .walked .within) (c .before .before .piece .given .1) in let k = run-skips _ _ _ _ _ (rw from at (c .before .before .before .before .next-piece .ensures)) (c .before .before .before .before .before .before .loop .inv .walked .within) (c .before .before .piece .given .1) in omega arith
+part-starts-with-end-2 c =
+    let k = c .before .before .before .before in
+    let piece = c .before .before .piece in
+    let l = run-lies k (piece .given .1) in
+    omega arith
 
 starts-with-requires : tie.Need-starts-with-requires Inv-loop μ-loop
 starts-with-requires c κs = search needs
 
 returns : tie.Need-returns Inv-loop μ-loop
-returns c = run-differs _ _ _ (c .before .before .before .before .before .before .before .before .before .loop .inv) (rw from at (c .before .before .before .before .before .before .before .next-piece .ensures)) _ (pieces-end _ _ _ _ (c .before .before .before .before .before .before .before .before .before .before .before .before .before .pre)) (c .before .before .before .before .before .piece .given .1) (rw (from, run-bytes) at (c .before .starts-with .ensures)) (not-true _ (c .if1 .taken))
+returns c =
+    let k = c .before .before .before .before .before .before .before in
+    let piece = c .before .before .before .before .before .piece in
+    let e = rw (from, run-bytes) at (c .before .starts-with .ensures) in
+    run-differs _ _ _ (here k .loop .inv) (came k) _ (ends k) (piece .given .1) e (not-true _ (c .if1 .taken))
 
 sub-len : tie.Need-sub-len Inv-loop μ-loop
-sub-len c = run-skips _ _ _ _ _ (rw from at (c .before .before .before .before .before .before .before .next-piece .ensures)) (c .before .before .before .before .before .before .before .before .before .loop .inv .walked .within) (c .before .before .before .before .before .piece .given .1)
+sub-len c =
+    let k = c .before .before .before .before .before .before .before in
+    let piece = c .before .before .before .before .before .piece in
+    run-skips _ _ _ _ _ (came k) (here k .loop .inv .walked .within) (piece .given .1)
 
 add-len : tie.Need-add-len Inv-loop μ-loop
-add-len c = let m = match-run _ _ _ (c .before .before .before .before .before .before .before .before .before .loop .inv) (rw from at (c .before .before .before .before .before .before .before .next-piece .ensures)) (c .before .before .before .before .before .piece .given .1) (rw (from, run-bytes) at (c .before .starts-with .ensures)) (not-false _ (c .if1 .left)) in omega arith
+add-len c =
+    let k = c .before .before .before .before .before .before .before in
+    let piece = c .before .before .before .before .before .piece in
+    let m = match-run _ _ _ (here k .loop .inv) (came k) (piece .given .1) (rw (from, run-bytes) at (c .before .starts-with .ensures)) (not-false _ (c .if1 .left)) in
+    omega arith
 
 add-at : tie.Need-add-at Inv-loop μ-loop
-add-at c = let m = run-moves _ _ _ _ _ (rw from at (c .before .before .before .before .before .before .before .next-piece .ensures)) (c .before .before .before .before .before .before .before .before .before .loop .inv .walked .within) (c .before .before .before .before .before .piece .given .1) in omega arith
+add-at c =
+    let k = c .before .before .before .before .before .before .before in
+    let piece = c .before .before .before .before .before .piece in
+    let m = run-moves _ _ _ _ _ (came k) (here k .loop .inv .walked .within) (piece .given .1) in
+    omega arith
 
 loop-less : tie.Need-loop-less Inv-loop μ-loop
-loop-less c = run-moves _ _ _ _ _ (rw from at (c .before .before .before .before .before .before .before .next-piece .ensures)) (c .before .before .before .before .before .before .before .before .before .loop .inv .walked .within) (c .before .before .before .before .before .piece .given .1) .falls
+loop-less c =
+    let k = c .before .before .before .before .before .before .before in
+    let piece = c .before .before .before .before .before .piece in
+    run-moves _ _ _ _ _ (came k) (here k .loop .inv .walked .within) (piece .given .1) .falls
 
 loop-again : tie.Need-loop-again Inv-loop μ-loop
-loop-again c = match-run _ _ _ (c .before .before .before .before .before .before .before .before .before .loop .inv) (rw from at (c .before .before .before .before .before .before .before .next-piece .ensures)) (c .before .before .before .before .before .piece .given .1) (rw (from, run-bytes) at (c .before .starts-with .ensures)) (not-false _ (c .if1 .left))
+loop-again c =
+    let k = c .before .before .before .before .before .before .before in
+    let piece = c .before .before .before .before .before .piece in
+    match-run _ _ _ (here k .loop .inv) (came k) (piece .given .1) (rw (from, run-bytes) at (c .before .starts-with .ensures)) (not-false _ (c .if1 .left))
 
 enum-known-piece-2 : tie.Need-enum-known-piece-2 Inv-loop μ-loop
 enum-known-piece-2 c = search needs
@@ -122,37 +193,64 @@ starts-with-requires-2 : tie.Need-starts-with-requires-2 Inv-loop μ-loop
 starts-with-requires-2 c κs = search needs
 
 returns-2 : tie.Need-returns-2 Inv-loop μ-loop
-returns-2 c = scalar-differs _ _ _ (c .before .before .before .before .before .before .before .before .before .before .before .loop .inv) (rw from at (c .before .before .before .before .before .before .before .before .before .next-piece .ensures)) _ (pieces-end _ _ _ _ (c .before .before .before .before .before .before .before .before .before .before .before .before .before .before .before .pre)) (c .before .before .before .before .before .before .before .piece2 .given .1) (rw (from, c .before .before .before .before .before .encode .ensures, encoded-bytes) at (c .before .starts-with2 .ensures)) (not-true _ (c .if2 .taken))
+returns-2 c =
+    let k = c .before .before .before .before .before .before .before .before .before in
+    let piece = c .before .before .before .before .before .before .before .piece2 in
+    let encode = c .before .before .before .before .before .encode in
+    let e = rw (from, encode .ensures, encoded-bytes) at (c .before .starts-with2 .ensures) in
+    scalar-differs _ _ _ (here k .loop .inv) (came k) _ (ends k) (piece .given .1) e (not-true _ (c .if2 .taken))
 
 add-len-2 : tie.Need-add-len-2 Inv-loop μ-loop
-add-len-2 c = let m = match-scalar _ _ _ (c .before .before .before .before .before .before .before .before .before .before .before .loop .inv) (rw from at (c .before .before .before .before .before .before .before .before .before .next-piece .ensures)) (c .before .before .before .before .before .before .before .piece2 .given .1) (rw (from, c .before .before .before .before .before .encode .ensures, encoded-bytes) at (c .before .starts-with2 .ensures)) (not-false _ (c .if2 .left)) in omega (arith, (ap (λ (e : Encoded). e .len) (c .before .before .before .before .before .encode .ensures) ∙ encoded-len _))
+add-len-2 c =
+    let k = c .before .before .before .before .before .before .before .before .before in
+    let piece = c .before .before .before .before .before .before .before .piece2 in
+    let encode = c .before .before .before .before .before .encode in
+    let m = match-scalar _ _ _ (here k .loop .inv) (came k) (piece .given .1) (rw (from, encode .ensures, encoded-bytes) at (c .before .starts-with2 .ensures)) (not-false _ (c .if2 .left)) in
+    omega (arith, c, ap (λ (e : Encoded). e .len) (encode .ensures) ∙ encoded-len _)
 
 add-at-2 : tie.Need-add-at-2 Inv-loop μ-loop
-add-at-2 c = let m = scalar-moves _ _ _ _ _ (rw from at (c .before .before .before .before .before .before .before .before .before .next-piece .ensures)) (c .before .before .before .before .before .before .before .before .before .before .before .loop .inv .walked .within) (c .before .before .before .before .before .before .before .piece2 .given .1) in omega arith
+add-at-2 c =
+    let k = c .before .before .before .before .before .before .before .before .before in
+    let piece = c .before .before .before .before .before .before .before .piece2 in
+    let m = scalar-moves _ _ _ _ _ (came k) (here k .loop .inv .walked .within) (piece .given .1) in
+    omega arith
 
 loop-less-2 : tie.Need-loop-less-2 Inv-loop μ-loop
-loop-less-2 c = scalar-moves _ _ _ _ _ (rw from at (c .before .before .before .before .before .before .before .before .before .next-piece .ensures)) (c .before .before .before .before .before .before .before .before .before .before .before .loop .inv .walked .within) (c .before .before .before .before .before .before .before .piece2 .given .1) .falls
+loop-less-2 c =
+    let k = c .before .before .before .before .before .before .before .before .before in
+    let piece = c .before .before .before .before .before .before .before .piece2 in
+    scalar-moves _ _ _ _ _ (came k) (here k .loop .inv .walked .within) (piece .given .1) .falls
 
 loop-again-2 : tie.Need-loop-again-2 Inv-loop μ-loop
-loop-again-2 c = rw (ap (λ (e : Encoded). e .len) (c .before .before .before .before .before .encode .ensures) ∙ encoded-len _) (match-scalar _ _ _ (c .before .before .before .before .before .before .before .before .before .before .before .loop .inv) (rw from at (c .before .before .before .before .before .before .before .before .before .next-piece .ensures)) (c .before .before .before .before .before .before .before .piece2 .given .1) (rw (from, c .before .before .before .before .before .encode .ensures, encoded-bytes) at (c .before .starts-with2 .ensures)) (not-false _ (c .if2 .left)))
+loop-again-2 c =
+    let k = c .before .before .before .before .before .before .before .before .before in
+    let piece = c .before .before .before .before .before .before .before .piece2 in
+    let encode = c .before .before .before .before .before .encode in
+    rw (ap (λ (e : Encoded). e .len) (encode .ensures) ∙ encoded-len _) (match-scalar _ _ _ (here k .loop .inv) (came k) (piece .given .1) (rw (from, encode .ensures, encoded-bytes) at (c .before .starts-with2 .ensures)) (not-false _ (c .if2 .left)))
 
 enum-told : tie.Need-enum-told Inv-loop μ-loop
 enum-told c = search needs
 
 returns-3 : tie.Need-returns-3 Inv-loop μ-loop
-returns-3 c = end-matched _ _ _ (c .before .before .before .before .loop .inv) (rw from at (c .before .before .next-piece .ensures)) (c .enum-told .given .1)
+returns-3 c =
+    let k = c .before .before in
+    end-matched _ _ _ (here k .loop .inv) (came k) (c .enum-told .given .1)
 
 enum-told-2 : tie.Need-enum-told-2 Inv-loop μ-loop
 enum-told-2 c = search needs
 
 returns-4 : tie.Need-returns-4 Inv-loop μ-loop
-returns-4 c = code-matched _ _ _ (c .before .before .before .before .loop .inv) (rw from at (c .before .before .next-piece .ensures)) (c .enum-told2 .given .1)
+returns-4 c =
+    let k = c .before .before in
+    code-matched _ _ _ (here k .loop .inv) (came k) (c .enum-told2 .given .1)
 
 enum-told-3 : tie.Need-enum-told-3 Inv-loop μ-loop
 enum-told-3 c = search needs
 
 returns-5 : tie.Need-returns-5 Inv-loop μ-loop
-returns-5 c = refused-matched _ _ _ (c .before .before .before .before .loop .inv) (rw from at (c .before .before .next-piece .ensures)) (c .enum-told3 .given .1)
+returns-5 c =
+    let k = c .before .before in
+    refused-matched _ _ _ (here k .loop .inv) (came k) (c .enum-told3 .given .1)
 
 pub is-written-spec : {M : Type 1} → statement M
 is-written-spec =
