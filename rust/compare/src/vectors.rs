@@ -211,7 +211,7 @@ fn unescaped(document: &str, token: &Token) -> Vec<usize> {
     }
 }
 
-/// The key's length and its bytes; then whether there is nothing (0), an entry (1) or a refusal (2),
+/// The name's length and its bytes; then whether there is nothing (0), an entry (1) or a refusal (2),
 /// a refusal's number, the key's or the refusal's line, and where the entry starts and ends.
 fn looked_up(wanted: &[u8], found: &Found) -> Vec<usize> {
     let answer = match *found {
