@@ -9,7 +9,8 @@ use borrow.Author.Tests.{le-leb, lt-leb, lt-ltb, le-ltb}
 use Rattle.text.specs.declared.bytes.Part.{Part}
 use Rattle.tokenizer.specs.Token.{tokenValues}
 use Rattle.tokenizer.specs.declared.token.Token.{Token}
-use Rattle.tokenizer_rows.specs.Rows.{rowOf}
+use Rattle.tokenizer_rows.specs.Rows.{rowOf, tokenIn}
+use Rattle.tokenizer_rows.proofs.Back.{kinds, tokens-back}
 use Rattle.unescape_source.specs.Source.{sourceIn}
 use Rattle.unescape.specs.Unescape.{unescapeOf}
 use Rattle.unescape.specs.declared.Answer.{Answer}
@@ -17,8 +18,6 @@ use Rattle.unescape.specs.declared.Answer.the-variants as answer
 use Rattle.look_up.specs.declared.search.Found.{Found}
 use Rattle.look_up.specs.declared.search.Found.the-variants as found
 use Rattle.look_up.proofs.Searched.{look-up-over}
-use Rattle.parser_words.specs.ParserWords.{tokenIn}
-use Rattle.parser_words.proofs.Back.{kinds, tokens-back}
 use Rattle.answer_words.specs.Texts.{answerWords, isToken, hasAnswer, textOf}
 use Rattle.answer_words.specs.Found.{foundWords, foundIn}
 use Rattle.answer_words.specs.Claims.{RowsUnescaped, TextsOver, FoundOver, NoRoom, NoToken, AnswersTold, FoundTold, Layout}

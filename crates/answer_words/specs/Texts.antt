@@ -7,10 +7,10 @@ use mathlib.Core.Bool.{Bool, cond, _&&_, _||_}
 use lib.Dec.{leb, ltb}
 use lib.ListN.{length, getD, drop}
 use Rattle.text.specs.Numbers.{maxDocument}
+use Rattle.tokenizer_rows.specs.Rows.{tokenIn}
 use Rattle.unescape.specs.Unescape.{Unescaped, unescapeOf}
 use Rattle.unescape.specs.declared.Answer.{Answer}
 use Rattle.unescape.specs.declared.Answer.the-variants.{Plain, Written, Refused}
-use Rattle.parser_words.specs.ParserWords.{tokenIn}
 
 -- how many words an answer has, here and in the look-up
 abbrev pub answerSize : ℕ

@@ -1,6 +1,6 @@
 // Unescaping over lent words: the token in a row, the answer in five words.
-use parser_words::token_in;
 use tokenizer::State;
+use tokenizer_rows::token_in;
 use tokenizer_words::paste;
 use unescape::Answer;
 ghost use mathlib.Core.Path.{_≡_};

@@ -18,6 +18,7 @@ use Rattle.parser.specs.Step.{stepOf}
 use Rattle.parser.specs.declared.state.State.{State}
 use Rattle.parser.proofs.Steps.{unfit as no-fit}
 use Rattle.tokenizer_rows.specs.Rows.{rowsOf, rowsIn}
+use Rattle.tokenizer_rows.proofs.Back.{kinds}
 use Rattle.tokenizer_words.specs.Words.{pastedIn, wordsOf, storedIn, stateIn, readable}
 use Rattle.batches.specs.Batch.{Taken, taken, Batch, tokenizing, batchOf}
 use Rattle.tokenizer_words.proofs.Pasting.{pasted-room, pasted-front}
@@ -33,7 +34,6 @@ use Rattle.step_words.specs.Stepping.{Gone, stepIn}
 use Rattle.batches.specs.Walks.{stepping, lastOf}
 use Rattle.step_words.specs.Claims.{Whole}
 use Rattle.step_words.specs.declared.step.Layer.the-variants.{Tokenizer as Tokens, Parser as Parses}
-use Rattle.parser_words.proofs.Back.{kinds}
 use Rattle.step_words.proofs.Going.{sections-65, slots-in}
 use Rattle.batches.proofs.Taking.{last-none}
 use Rattle.batches.proofs.Single.{not-unfit}

@@ -11,7 +11,7 @@ use Rattle.tokenizer.proofs.Examples.{rules as tokenRules}
 use Rattle.parser_rules.specs.Ruling.{valuesOf}
 use Rattle.parser.specs.Step.{innermostOf, sectionsAfter, countAfter, afterVerdict, stepWith, stepKept, stepOf, fresh}
 use Rattle.parser.proofs.Examples.{rules as parserRules}
-use Rattle.tokenizer_rows.specs.Rows.{rowsOf, rowsIn}
+use Rattle.tokenizer_rows.specs.Rows.{rowsOf, rowsIn, tokenBy, tokenIn}
 use Rattle.tokenizer_words.specs.Words.{flag, heldWords, partWords, frontWords, wordsOf, storedIn, partsIn, stateIn, readable, freshIn}
 use Rattle.parser_words.specs.ParserWords.{
   sortWord,
@@ -23,8 +23,6 @@ use Rattle.parser_words.specs.ParserWords.{
   sortIn,
   sectionsIn,
   awaitedIn,
-  tokenBy,
-  tokenIn,
   keptIn,
   parserIn,
   areSorts,

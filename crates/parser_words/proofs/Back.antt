@@ -1,5 +1,5 @@
 -- A parser's state is read back from its words.
-use Prim.Native.Nat.{ℕ, zero, suc, _≤_, _<_}
+use Prim.Native.Nat.{ℕ, zero, suc}
 use mathlib.Core.Path.{_≡_, refl, ap, _∙_, sym}
 use mathlib.Core.List.{List, [], _∷_, _++_, append-assoc}
 use mathlib.Core.Bool.{false}
@@ -9,11 +9,11 @@ use lib.ListN.{length, drop, getD}
 use lib.Seq.{drop-at, getD-drop, drop-drop}
 use borrow.Author.Tests.{ne-eqb}
 use Rattle.parser_rules.specs.Judging.{awaitedNumber, awaitedLine}
+use Rattle.tokenizer_rows.proofs.Back.{kinds, tokens-back}
 use Rattle.tokenizer_words.proofs.Slots.{words-137}
 use Rattle.tokenizer_words.proofs.Standing.{eqb-flag, state-back}
 use Rattle.tokenizer.specs.Token.{tokenValues}
 use Rattle.tokenizer.specs.declared.token.Token.{Token}
-use Rattle.tokenizer.specs.declared.token.Token.the-variants as token
 use Rattle.parser_rules.specs.declared.ruling.Sort.{Sort}
 use Rattle.parser_rules.specs.declared.ruling.Sort.the-variants as sort
 use Rattle.parser_rules.specs.declared.ruling.Awaited.{Awaited}
@@ -23,41 +23,13 @@ use Rattle.parser_rules.specs.declared.ruling.Kept.the-variants as kept
 use Rattle.parser.specs.declared.state.Section.{Section}
 use Rattle.parser.specs.declared.state.State.{State}
 use Rattle.tokenizer_words.specs.Words.{flag, wordsOf, stateIn}
-use Rattle.parser_words.specs.ParserWords.{sortWord, sortWords, awaitedWords, keptWords, middleWords, parserWords, sortIn, sectionsIn, awaitedIn, tokenBy, tokenIn, keptIn, parserIn}
-use Rattle.parser_words.specs.Claims.{TokensBack}
-
--- a token's kind
-pub kinds : (t : Token) → (0 < tokenValues t .number) × (tokenValues t .number ≤ 10)
-unfolding tokenValues
-kinds (token.Newline l) = (omega arith, omega arith)
-kinds (token.Comment l p) = (omega arith, omega arith)
-kinds (token.Indent l) = (omega arith, omega arith)
-kinds (token.Outdent l) = (omega arith, omega arith)
-kinds (token.ListItem l) = (omega arith, omega arith)
-kinds (token.MapKey l p) = (omega arith, omega arith)
-kinds (token.Value l p) = (omega arith, omega arith)
-kinds (token.MultilineHint l p) = (omega arith, omega arith)
-kinds (token.MultilineValue l i p) = (omega arith, omega arith)
-kinds (token.NoValue l) = (omega arith, omega arith)
+use Rattle.parser_words.specs.ParserWords.{sortWord, sortWords, awaitedWords, keptWords, middleWords, parserWords, sortIn, sectionsIn, awaitedIn, keptIn, parserIn}
 
 pub not-0 : (t : Token) → eqb (tokenValues t .number) 0 ≡ false
 not-0 t = ne-eqb (tokenValues t .number) 0 (λ e. let k = kinds t .0 in omega arith)
 
 pub not-11 : (t : Token) → eqb (tokenValues t .number) 11 ≡ false
 not-11 t = ne-eqb (tokenValues t .number) 11 (λ e. let k = kinds t .1 in omega arith)
-
-pub tokens-back : TokensBack
-unfolding tokenIn tokenBy tokenValues
-tokens-back (token.Newline l) r = refl
-tokens-back (token.Comment l p) r = refl
-tokens-back (token.Indent l) r = refl
-tokens-back (token.Outdent l) r = refl
-tokens-back (token.ListItem l) r = refl
-tokens-back (token.MapKey l p) r = refl
-tokens-back (token.Value l p) r = refl
-tokens-back (token.MultilineHint l p) r = refl
-tokens-back (token.MultilineValue l i p) r = refl
-tokens-back (token.NoValue l) r = refl
 
 kept-back : (k : Kept) (r : List ℕ) → keptIn (keptWords k ++ r) ≡ k
 unfolding keptIn keptWords

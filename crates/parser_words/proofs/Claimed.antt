@@ -21,6 +21,7 @@ use Rattle.parser.specs.Step.{fresh}
 use Rattle.parser.specs.declared.state.Section.{Section}
 use Rattle.parser.specs.declared.state.State.{State}
 use Rattle.parser.proofs.Valued.{values-injective}
+use Rattle.tokenizer_rows.proofs.Back.{kinds}
 use Rattle.tokenizer_rows.proofs.Claimed.{rows-tell, lists-tell}
 use Rattle.tokenizer_words.specs.Words.{flag, heldWords, partWords, frontWords, wordsOf, readable}
 use Rattle.tokenizer_words.proofs.Claimed.{flag-tells}
@@ -28,7 +29,7 @@ use Rattle.tokenizer_words.proofs.Claimed.{states-back as tokenizers-back}
 use Rattle.parser_words.specs.ParserWords.{sortWord, sortWords, awaitedWords, keptWords, middleWords, parserWords, areSorts, parserReadable}
 use Rattle.parser_words.specs.Claims.{Slots, StatesBack, AnswerRows, AnswerLists, Layout}
 use Rattle.parser_words.proofs.Sorts.{sort-words-length}
-use Rattle.parser_words.proofs.Back.{kinds, all-words, refused-word, number-word, kept-at, sorts-at, parser-back}
+use Rattle.parser_words.proofs.Back.{all-words, refused-word, number-word, kept-at, sorts-at, parser-back}
 
 -- Each word that is tested stands for something
 

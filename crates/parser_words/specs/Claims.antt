@@ -1,15 +1,13 @@
 -- Claims about the parser's words and rows: what is written is read back, distinct answers have distinct rows, and the
 -- words stand in this order, without which two halves that are wrong alike would do. proofs/Claimed and Slotted prove
--- them, and proofs/Back that a token is read back.
+-- them.
 use Prim.Native.Nat.{ℕ}
 use mathlib.Core.Path.{_≡_}
 use mathlib.Core.List.{List, _∷_, _++_, map}
 use mathlib.Core.Bool.{Bool, true, false}
 use lib.ListN.{length, replicate}
 use Rattle.text.specs.Bytes.{part}
-use Rattle.tokenizer.specs.Token.{tokenValues}
 use Rattle.tokenizer.specs.Step.{fresh as freshTokenizer}
-use Rattle.tokenizer.specs.declared.token.Token.{Token}
 use Rattle.tokenizer.specs.declared.token.Token.the-variants.{MultilineValue}
 use Rattle.tokenizer.specs.declared.state.State.{State as Tokenizer}
 use Rattle.parser_rules.specs.Ruling.{valuesOf}
@@ -25,7 +23,7 @@ use Rattle.tokenizer_rows.specs.Rows.{rowOf, rowsOf}
 use Rattle.tokenizer_words.specs.Words.{wordsOf}
 use Rattle.tokenizer_words.specs.Claims.{standing}
 use Rattle.tokenizer_words.specs.Claims.{Slots as TokenizerSlots}
-use Rattle.parser_words.specs.ParserWords.{parserWords, parserIn, parserReadable, tokenIn}
+use Rattle.parser_words.specs.ParserWords.{parserWords, parserIn, parserReadable}
 
 -- a state has its record of sections, and T holds of its tokenizer's state
 abbrev pub Having : (Tokenizer → Type 0) → State → Type 0
@@ -47,10 +45,6 @@ StatesBack = (s : State) (r : List ℕ) → Slots s → Back s r
 pub record Slotted : Type 0 where
   pub begins : Slots fresh
   pub steps : (d : List ℕ) (s : State) → Slots s → Slots (stepOf d s .state)
-
--- a token is read back from its row
-abbrev pub TokensBack : Type 0
-TokensBack = (t : Token) (r : List ℕ) → tokenIn (rowOf (tokenValues t) ++ r) ≡ t
 
 -- distinct answers have distinct rows, and distinct lists distinct rows one after the other
 abbrev pub AnswerRows : Type 0

@@ -7,10 +7,7 @@ use mathlib.Core.List.{List, [], _∷_, _++_}
 use mathlib.Core.Bool.{Bool, true, cond, _&&_}
 use lib.Dec.{eqb, leb}
 use lib.ListN.{length, getD, drop}
-use Rattle.text.specs.declared.bytes.Part.{Part}
 use Rattle.tokenizer.specs.Token.{bare, tokenValues}
-use Rattle.tokenizer.specs.declared.token.Token.{Token}
-use Rattle.tokenizer.specs.declared.token.Token.the-variants as token
 use Rattle.parser.specs.Step.{maxSections, fresh}
 use Rattle.parser_rules.specs.declared.ruling.Sort.{Sort}
 use Rattle.parser_rules.specs.declared.ruling.Sort.the-variants.{Unset, Map, List as Listed}
@@ -20,7 +17,7 @@ use Rattle.parser_rules.specs.declared.ruling.Kept.{Kept}
 use Rattle.parser_rules.specs.declared.ruling.Kept.the-variants as kept
 use Rattle.parser.specs.declared.state.Section.{Section}
 use Rattle.parser.specs.declared.state.State.{State}
-use Rattle.tokenizer_rows.specs.Rows.{rowOf}
+use Rattle.tokenizer_rows.specs.Rows.{rowOf, tokenIn}
 use Rattle.tokenizer_words.specs.Words.{tokenizerSize, flag, wordsOf, stateIn, readable}
 
 -- how many words a parser's state has: the tokenizer's, eleven more, and one for each sort, 213
@@ -64,29 +61,6 @@ sectionsIn (suc n) w = record { sort = sortIn (getD w 0 0) } ∷ sectionsIn n (d
 
 unfoldable pub awaitedIn : ℕ → ℕ → Awaited
 awaitedIn n l = getD (awaited.Nothing ∷ awaited.Value l ∷ awaited.Multiline l ∷ []) n awaited.Nothing
-
--- the token of a number, its line, its text and its indentation; NoValue for a number that is no other token's
-unfoldable pub tokenBy : ℕ → ℕ → Part → Part → Token
-tokenBy n l p i =
-    getD
-    (token.NoValue l
-    ∷ token.Newline l
-    ∷ token.Comment l p
-    ∷ token.Indent l
-    ∷ token.Outdent l
-    ∷ token.ListItem l
-    ∷ token.MapKey l p
-    ∷ token.Value l p
-    ∷ token.MultilineHint l p
-    ∷ token.MultilineValue l i p
-    ∷ [])
-    n
-    (token.NoValue l)
-
--- the token of a row
-unfoldable pub tokenIn : List ℕ → Token
-tokenIn w =
-    tokenBy (getD w 0 0) (getD w 1 0) (record { start = getD w 2 0; end = getD w 3 0 }) (record { start = getD w 4 0; end = getD w 5 0 })
 
 -- what a row says is kept
 unfoldable pub keptIn : List ℕ → Kept

@@ -6,4 +6,3 @@ pub use words::is_parser;
 pub use words::restore_parser;
 pub use words::sort_word;
 pub use words::store_parser;
-pub use words::token_in;

@@ -4,10 +4,10 @@ use parser::Kept;
 use parser::Section;
 use parser::Sort;
 use parser::State;
-use text::Part;
-use tokenizer::Token;
 use tokenizer_rows::bare_row;
+use tokenizer_rows::token_in;
 use tokenizer_rows::token_row;
+use tokenizer_rows::word;
 use tokenizer_words::flag_of;
 use tokenizer_words::held_by;
 use tokenizer_words::held_words;
@@ -20,7 +20,7 @@ ghost use mathlib.Core.Bool.{cond, _&&_};
 ghost use mathlib.Core.List.{[], _∷_, _++_};
 ghost use Prim.Native.Nat.{_≤_};
 ghost use lib.Dec.{leb};
-ghost use lib.ListN.{length, getD, take, drop};
+ghost use lib.ListN.{length, take, drop};
 ghost use Rattle.tokenizer.specs.Step.{fit};
 ghost use Rattle.tokenizer_words.specs.Words.{pasted, pastedIn, flag, heldWords, stateIn};
 ghost use Rattle.parser.specs.Step.{maxSections};
@@ -33,8 +33,6 @@ ghost use Rattle.parser_words.specs.ParserWords.{
   middleWords,
   parserStoredIn,
   awaitedIn,
-  tokenBy,
-  tokenIn,
   keptIn,
   parserIn,
   areSorts,
@@ -77,45 +75,6 @@ fn awaited_in(n: usize, line: usize) -> Awaited
         2 => Awaited::Multiline(line),
         _ => Awaited::Nothing,
     }
-}
-
-fn token_by(number: usize, line: usize, p: Part, indent: Part) -> Token
-    ensures { λ r. ⌜ r ≡ tokenBy number line p indent ⌝ }
-{
-    match number {
-        1 => Token::Newline(line),
-        2 => Token::Comment(line, p),
-        3 => Token::Indent(line),
-        4 => Token::Outdent(line),
-        5 => Token::ListItem(line),
-        6 => Token::MapKey(line, p),
-        7 => Token::Value(line, p),
-        8 => Token::MultilineHint(line, p),
-        9 => Token::MultilineValue(line, indent, p),
-        _ => Token::NoValue(line),
-    }
-}
-
-// The word at i; 0 where there is none.
-fn word(w: &[usize], i: usize) -> usize
-    ensures { λ r. ⌜ r ≡ getD (now (w .entry)) i 0 ⌝ }
-{
-    if i < w.len() { w[i] } else { 0 }
-}
-
-// The token of a row; a word that it lacks is 0.
-pub fn token_in(w: &[usize]) -> Token
-    ensures { λ r. ⌜ r ≡ tokenIn (now (w .entry)) ⌝ }
-{
-    let p = Part {
-        start: word(w, 2),
-        end: word(w, 3),
-    };
-    let indent = Part {
-        start: word(w, 4),
-        end: word(w, 5),
-    };
-    token_by(word(w, 0), word(w, 1), p, indent)
 }
 
 fn kept_in(w: &[usize]) -> Kept

@@ -25,6 +25,7 @@ use Rattle.parser.specs.Step.{innermostOf, fullOf, onRuling, stepWith, cameOf, 
 use Rattle.parser.specs.declared.state.State.{State}
 use Rattle.parser.proofs.Sections.{Asks, asks-no-more}
 use Rattle.parser.proofs.Steps.{goes-on}
+use Rattle.tokenizer_rows.proofs.Back.{kinds}
 use Rattle.tokenizer_words.specs.Words.{wordsOf, stateIn}
 use Rattle.tokenizer_words.proofs.Standing.{slots-64}
 use Rattle.parser_words.specs.ParserWords.{sortWords, keptWords, middleWords, parserWords, parserIn}
@@ -35,7 +36,7 @@ use Rattle.step_words.specs.Stepping.{cameIn, sortAt, judgedIn, outcomeF
 use Rattle.step_words.specs.declared.step.Layer.the-variants.{Parser}
 use Rattle.step_words.specs.declared.outcome.Outcome.{Outcome}
 use Rattle.parser_words.proofs.Sorts.{sections-length}
-use Rattle.parser_words.proofs.Back.{kinds, all-words, behind-137, number-at, line-at, kept-at, sorts-at}
+use Rattle.parser_words.proofs.Back.{all-words, behind-137, number-at, line-at, kept-at, sorts-at}
 use Rattle.step_words.proofs.Agreeing.{Leaves, agrees}
 use Rattle.step_words.proofs.Putting.{moved, put-is}
 use Rattle.step_words.proofs.Coming.{sort-is, Comes, comes}

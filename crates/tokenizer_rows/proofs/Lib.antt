@@ -1,2 +1,4 @@
+pub mod Arms
+pub mod Back
 pub mod Claimed
 pub mod RowLists

@@ -1,7 +1,9 @@
--- Claims about the rows: distinct answers have distinct rows, and the words of a row stand in this order, without which
--- two halves that are wrong alike would do. proofs/Claimed proves them.
+-- Claims about the rows: a token is read back from its row, distinct answers have distinct rows, and the words of a row
+-- stand in this order, without which two halves that are wrong alike would do. proofs/Claimed proves them, and
+-- proofs/Back that a token is read back.
+use Prim.Native.Nat.{ℕ}
 use mathlib.Core.Path.{_≡_}
-use mathlib.Core.List.{List, [], _∷_, map}
+use mathlib.Core.List.{List, [], _∷_, _++_, map}
 use Rattle.text.specs.Bytes.{part}
 use Rattle.tokenizer.specs.Token.{tokenValues, valuesOf}
 use Rattle.tokenizer.specs.Step.{noPart}
@@ -9,7 +11,11 @@ use Rattle.tokenizer.specs.declared.token.Token.{Token}
 use Rattle.tokenizer.specs.declared.token.Token.the-variants as token
 use Rattle.tokenizer.specs.declared.state.Answer.{Answer}
 use Rattle.tokenizer.specs.declared.state.Answer.the-variants as answer
-use Rattle.tokenizer_rows.specs.Rows.{rowOf, rowsOf}
+use Rattle.tokenizer_rows.specs.Rows.{rowOf, rowsOf, tokenIn}
+
+-- a token is read back from its row
+abbrev pub TokensBack : Type 0
+TokensBack = (t : Token) (r : List ℕ) → tokenIn (rowOf (tokenValues t) ++ r) ≡ t
 
 -- distinct answers have distinct rows, and distinct lists distinct rows one after the other
 abbrev pub AnswerRows : Type 0

@@ -4,8 +4,8 @@ use crate::answers::is_last;
 use crate::answers::is_part;
 use crate::answers::words_after;
 use crate::lines::number_at;
-use parser_words::token_in;
 use text::Dropped;
+use tokenizer_rows::token_in;
 
 pub fn utf8_agrees(line: &[u8], s: &[u8], after: usize) -> bool {
     let n = number_at(line, after);

@@ -1,6 +1,6 @@
 -- What is awaited for each number; nothing for any other.
 use Rattle.parser_words.specs.ParserWords.{awaitedIn}
-use Rattle.parser_words.proofs.Tests.{first-else}
+use Rattle.tokenizer_rows.proofs.Arms.{first-else}
 use Rattle.parser_words.proofs.words.awaited_in.Statement.{statement}
 use Rattle.parser_words.proofs.words.awaited_in.Tie as tie
 

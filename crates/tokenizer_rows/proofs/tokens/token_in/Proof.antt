@@ -1,8 +1,8 @@
 -- The six words of the row, each where `tokenIn` has it.
-use Rattle.parser_words.specs.ParserWords.{tokenIn}
+use Rattle.tokenizer_rows.specs.Rows.{tokenIn}
 use borrow.Author.Needs.{needs}
-use Rattle.parser_words.proofs.words.token_in.Statement.{statement}
-use Rattle.parser_words.proofs.words.token_in.Tie as tie
+use Rattle.tokenizer_rows.proofs.tokens.token_in.Statement.{statement}
+use Rattle.tokenizer_rows.proofs.tokens.token_in.Tie as tie
 
 word-requires : tie.Need-word-requires
 word-requires c κs = search needs

@@ -2,8 +2,8 @@
 use mathlib.Core.Path.{sym}
 use lib.ListN.{List·getD-eq-default}
 use borrow.Author.Needs.{needs}
-use Rattle.parser_words.proofs.words.word.Statement.{statement}
-use Rattle.parser_words.proofs.words.word.Tie as tie
+use Rattle.tokenizer_rows.proofs.tokens.word.Statement.{statement}
+use Rattle.tokenizer_rows.proofs.tokens.word.Tie as tie
 
 mul-result : tie.Need-mul-result
 mul-result c = search needs

@@ -1,8 +1,8 @@
 -- A token for each number; NoValue for any other.
-use Rattle.parser_words.specs.ParserWords.{tokenBy}
-use Rattle.parser_words.proofs.Tests.{first-else}
-use Rattle.parser_words.proofs.words.token_by.Statement.{statement}
-use Rattle.parser_words.proofs.words.token_by.Tie as tie
+use Rattle.tokenizer_rows.specs.Rows.{tokenBy}
+use Rattle.tokenizer_rows.proofs.Arms.{first-else}
+use Rattle.tokenizer_rows.proofs.tokens.token_by.Statement.{statement}
+use Rattle.tokenizer_rows.proofs.tokens.token_by.Tie as tie
 
 returns : tie.Need-returns
 unfolding tokenBy
