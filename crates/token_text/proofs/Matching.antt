@@ -2,14 +2,16 @@
 use Prim.Native.Nat.{ℕ, _+_, _-_, _≤_}
 use mathlib.Core.Path.{_≡_, refl, sym, _∙_}
 use mathlib.Core.List.{List, [], _++_}
-use mathlib.Core.Bool.{Bool, true, false}
+use mathlib.Core.Bool.{Bool, true, false, _&&_, and-false}
 use native.Mathlib.Omega.{arith}
-use lib.Dec.{eqb}
+use lib.Dec.{eqb, ltb}
 use lib.ListN.{length, take, drop, length-append}
 use Rattle.text.specs.Bytes.{startsWith, isSame}
+use Rattle.text.proofs.Cases.{by-bool, clash}
 use Rattle.text.proofs.Same.{starts-append, starts-le, same-starts}
 use Rattle.utf8.specs.Scalar.{encodingOf}
-use Rattle.tokenizer.specs.Step.{bytesOf}
+use Rattle.utf8.specs.Utf8.{utf8}
+use Rattle.tokenizer.specs.Step.{bytesOf, fitPart}
 use Rattle.tokenizer.specs.declared.token.Token.{Token}
 use Rattle.unescape_pieces.specs.Meaning.{Meaning, part, bytes, code, refused, written, meaning}
 use Rattle.unescape_pieces.specs.Pieces.{meaningFrom, nextOf, startOf}
@@ -22,9 +24,11 @@ use Rattle.unescape_pieces.proofs.Starts.{part-means, pieces-mean}
 use Rattle.unescape_pieces.proofs.Ends.{Ends}
 use Rattle.unescape_pieces.proofs.Turns.{run-moves, run-length}
 use Rattle.unescape_pieces.proofs.Walked.{Walked, begins, on-run, on-scalar, at-end, at-code, at-refused}
-use Rattle.unescape_source.specs.Source.{sourceIn}
+use Rattle.unescape_source.specs.Source.{sourceOf, sound, sourceIn}
 use Rattle.unescape_source.specs.declared.source.Source.{Source}
+use Rattle.unescape_source.specs.declared.source.Checked.{Checked}
 use Rattle.unescape_source.specs.declared.source.Checked.the-variants as source
+use Rattle.unescape_source.proofs.Sound.{read}
 use Rattle.token_text.specs.Text.{textBy, textIn, isText}
 
 -- a text that begins otherwise is another one, whatever follows
@@ -119,12 +123,44 @@ module _ (style : Style) (s indent wanted : List ℕ) where
 
 -- The text of a token
 
+-- two that are not both so are not both so with more asked of each
+not-both : (a b u v : Bool) → (a && b) ≡ false → ((a && u) && (b && v)) ≡ false
+not-both true true u v e = absurd (clash e)
+not-both true false u v e = and-false u
+not-both false b u v e = refl
+
 module _ (d : List ℕ) (t : Token) (w : List ℕ) where
   pub unread-none : {n l : ℕ} → sourceIn d t ≡ source.Refused n l → false ≡ isText (textIn d t) w
   unfolding textIn
   unread-none e = sym (rw e)
 
-  pub read-text : {x : Source} → sourceIn d t ≡ source.Readable x
-      → isText (textBy (meaning (x .style) (bytesOf d (x .text)) (bytesOf d (x .indent))) 0 (bytesOf d (x .text))) w ≡ isText (textIn d t) w
-  unfolding textIn
-  read-text {x} e = rw e (any-place (meaning (x .style) (bytesOf d (x .text)) (bytesOf d (x .indent))) (x .text .start) (bytesOf d (x .text)) w)
+  module _ {x : Source} (q : x ≡ sourceOf t) where
+    -- a part that is none of the document's
+    pub unfit-none : {a b : Bool} → a ≡ fitPart (length d) (x .text) → b ≡ fitPart (length d) (x .indent) → (a && b) ≡ false
+        → false ≡ isText (textIn d t) w
+    unfolding textIn sourceIn sound
+    unfit-none {a} {b} f g e =
+        let n = not-both a b (utf8 (bytesOf d (x .text))) (utf8 (bytesOf d (x .indent))) e in
+        let m = rw (f, g, q) at n in
+        by-bool (ltb 16777216 (length d)) (λ l. sym (rw l)) (λ l. sym (rw (l, m)))
+
+    abbrev meant : Bool
+    meant = isText (textBy (meaning (x .style) (bytesOf d (x .text)) (bytesOf d (x .indent))) 0 (bytesOf d (x .text))) w
+
+    read-text : {y : Source} → sourceIn d t ≡ source.Readable y → meant ≡ isText (textIn d t) w
+    unfolding textIn
+    read-text {y} e =
+        let z = q ∙ read d t e .is in
+        rw (e, z) (any-place (meaning (y .style) (bytesOf d (y .text)) (bytesOf d (y .indent))) (y .text .start) (bytesOf d (y .text)) w)
+
+    module _ {b : Bool} (m : b ≡ meant) where
+      pub same-text : {y : Source} → b ≡ true → sourceIn d t ≡ source.Readable y → true ≡ isText (textIn d t) w
+      same-text f e = sym f ∙ m ∙ read-text e
+
+      -- another text, whether it may be read or not
+      other : (c : Checked) → b ≡ false → sourceIn d t ≡ c → false ≡ isText (textIn d t) w
+      other (source.Readable y) f e = sym f ∙ m ∙ read-text e
+      other (source.Refused n l) f e = unread-none e
+
+      pub other-none : b ≡ false → false ≡ isText (textIn d t) w
+      other-none f = other (sourceIn d t) f refl

@@ -1,5 +1,6 @@
 // A token's text compared with wanted bytes, piece by piece.
 use tokenizer::Token;
+use tokenizer::part_fits;
 use unescape_pieces::Piece;
 use unescape_pieces::Spot;
 use unescape_pieces::Start;
@@ -8,6 +9,7 @@ use unescape_pieces::next_piece;
 use unescape_pieces::start_of;
 use unescape_source::Checked;
 use unescape_source::source_in;
+use unescape_source::source_of;
 ghost use mathlib.Core.Path.{_≡_};
 ghost use Prim.Native.Nat.{_≤_};
 ghost use lib.ListN.{length, drop};
@@ -64,19 +66,27 @@ fn is_meant(style: Style, s: &[u8], indent: &[u8], wanted: &[u8]) -> bool
     }
 }
 
-// Whether a token's text comes to the wanted bytes; one that is refused comes to none.
+// Whether a token's text comes to the wanted bytes; one that is refused comes to none. Most texts differ, and then nothing
+// else is asked of them: what 12 and 13 ask is tested last.
 pub fn is_text(t: Token, doc: &[u8], wanted: &[u8]) -> bool
     ensures { λ r. ⌜ r ≡ isText (textIn (now (doc .entry)) t) (now (wanted .entry)) ⌝ }
 {
-    let Checked::Readable(w) = source_in(t, doc) else {
-        return false;
-    };
+    let w = source_of(t);
     let style = w.style;
     let text = w.text;
     let indent = w.indent;
+    if !(part_fits(text, doc.len()) & part_fits(indent, doc.len())) {
+        return false;
+    }
     let from = text.start;
     let to = text.end;
     let indent_from = indent.start;
     let indent_to = indent.end;
-    is_meant(style, &doc[from..to], &doc[indent_from..indent_to], wanted)
+    if !is_meant(style, &doc[from..to], &doc[indent_from..indent_to], wanted) {
+        return false;
+    }
+    match source_in(t, doc) {
+        Checked::Readable(_) => true,
+        Checked::Refused(_, _) => false,
+    }
 }

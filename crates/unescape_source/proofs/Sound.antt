@@ -19,11 +19,12 @@ use Rattle.unescape_source.specs.declared.source.Source.{Source}
 use Rattle.unescape_source.specs.declared.source.Checked.{Checked}
 use Rattle.unescape_source.specs.declared.source.Checked.the-variants.{Readable, Refused}
 
+pub fit-lies : (n : ℕ) (p : Part) → fitPart n p ≡ true → (p .start ≤ p .end) × (p .end ≤ n)
+fit-lies n p f = (leb-true (p .start) (p .end) (and-left (leb (p .start) (p .end)) _ f), leb-true (p .end) n (and-right (leb (p .start) (p .end)) _ f))
+
 pub sound-fits : (d : List ℕ) (p : Part) → sound d p ≡ true → (p .start ≤ p .end) × (p .end ≤ length d)
 unfolding sound
-sound-fits d p e =
-    let f = and-left (fitPart (length d) p) (utf8 (bytesOf d p)) e in
-    (leb-true (p .start) (p .end) (and-left (leb (p .start) (p .end)) _ f), leb-true (p .end) (length d) (and-right (leb (p .start) (p .end)) _ f))
+sound-fits d p e = fit-lies (length d) p (and-left (fitPart (length d) p) (utf8 (bytesOf d p)) e)
 
 pub sound-length : (d : List ℕ) (p : Part) → sound d p ≡ true → p .start + length (bytesOf d p) ≤ length d
 sound-length d p e =
@@ -49,6 +50,7 @@ module _ (d : List ℕ) (t : Token) where
 
   -- of a source that may be read
   pub record Read (w : Source) : Type 0 where
+    pub is : sourceOf t ≡ w
     pub few : length d ≤ 16777216
     pub text : sound d (w .text) ≡ true
     pub indent : sound d (w .indent) ≡ true
@@ -64,4 +66,4 @@ module _ (d : List ℕ) (t : Token) where
   unfolding sourceIn
   read e =
       let g = readable-of (ltb 16777216 (length d)) (sound d (sourceOf t .text)) (sound d (sourceOf t .indent)) e in
-      record { few = ltb-false 16777216 (length d) (g .0); text = rw (g .3) at (g .1); indent = rw (g .3) at (g .2) }
+      record { is = g .3; few = ltb-false 16777216 (length d) (g .0); text = rw (g .3) at (g .1); indent = rw (g .3) at (g .2) }
