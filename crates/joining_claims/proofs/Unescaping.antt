@@ -31,12 +31,12 @@ use Rattle.tokenizer_claims.specs.Claims.{Text, TokenFits, Fits, All}
 use Rattle.tokenizer_claims.proofs.Claimed.{fit as reading-fit}
 use Rattle.text.specs.Bytes.{shiftedBy}
 use Rattle.unescape_pieces.specs.Meaning.{Meaning, part, bytes, code, refused, meaning}
-use Rattle.unescape_source.specs.Source.{sourceAt, sourceOf}
+use Rattle.unescape_source.specs.Source.{sourceAt, sourceOf, meaningIn}
 use Rattle.unescape_pieces.specs.declared.start.Style.{Style}
 use Rattle.unescape_pieces.specs.declared.start.Style.the-variants.{AsIs, Entry, Block}
 use Rattle.unescape_source.specs.declared.source.Source.{Source}
 use Rattle.unescape_pieces.proofs.Proper.{Proper, meaning-proper}
-use Rattle.unescape.specs.Unescape.{Unescaped, delivered, meaningIn, unescapeOf}
+use Rattle.unescape.specs.Unescape.{Unescaped, delivered, unescapeOf}
 use Rattle.unescape.specs.declared.Answer.{Answer}
 use Rattle.unescape.specs.declared.Answer.the-variants.{Plain, Written, Refused}
 use Rattle.unescape_claims.proofs.Readable.{none-text, texts-fit, texts-read}

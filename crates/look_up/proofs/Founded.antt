@@ -16,8 +16,8 @@ use Rattle.token_text.specs.Text.{Text, gives, fails, isText, textIn}
 use Rattle.parser.specs.Lists.{topEntries, parse}
 use Rattle.parser_rules.specs.declared.ruling.Answer.{Answer}
 use Rattle.parser_rules.specs.declared.ruling.Answer.the-variants as answer
-use Rattle.look_up.specs.Entries.{Key, keysOf, refusalIn, extent, entriesOf, isNamed, firstNamed, lookUp}
-use Rattle.look_up.specs.Claims.{topKeys, NoneNamed, endBefore, KeyFound, NothingFound, RefusalFound}
+use Rattle.look_up.specs.Entries.{Key, keysOf, topKeys, refusalIn, extent, entriesOf, isNamed, firstNamed, lookUp}
+use Rattle.look_up.specs.Claims.{NoneNamed, endBefore, KeyFound, NothingFound, RefusalFound}
 use Rattle.look_up.specs.declared.search.Found.{Found}
 use Rattle.look_up.specs.declared.search.Found.the-variants.{Nothing, At, Refused}
 

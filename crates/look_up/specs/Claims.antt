@@ -9,15 +9,11 @@ use lib.ListN.{length}
 use Rattle.text.specs.declared.bytes.Part.{Part}
 use Rattle.tokenizer.specs.declared.token.Token.the-variants as token
 use Rattle.token_text.specs.Text.{gives, textIn}
-use Rattle.parser.specs.Lists.{topEntries, parse}
+use Rattle.parser.specs.Lists.{parse}
 use Rattle.parser_rules.specs.declared.ruling.Answer.{Answer}
 use Rattle.parser_rules.specs.declared.ruling.Answer.the-variants as answer
-use Rattle.look_up.specs.Entries.{Key, keysOf, refusalIn, isNamed, lookUp}
+use Rattle.look_up.specs.Entries.{Key, topKeys, refusalIn, isNamed, lookUp}
 use Rattle.look_up.specs.declared.search.Found.the-variants.{Nothing, At, Refused}
-
--- the top-level keys of a list
-abbrev pub topKeys : List Answer → List Key
-topKeys l = keysOf (topEntries 0 0 l)
 
 abbrev pub NoneNamed : List ℕ → List ℕ → List Key → Type 0
 NoneNamed d w [] = Unit {0}

@@ -34,6 +34,10 @@ keysOf (token.MultilineHint l p ∷ ts) = keysOf ts
 keysOf (token.MultilineValue l i p ∷ ts) = keysOf ts
 keysOf (token.NoValue l ∷ ts) = keysOf ts
 
+-- the top-level keys of a parser's list
+abbrev pub topKeys : List Answer → List Key
+topKeys l = keysOf (topEntries 0 0 l)
+
 -- the refusal of a parser's list, its last answer if there is one
 unfoldable pub refusalIn : List Answer → Found
 refusalIn [] = Nothing
@@ -66,7 +70,7 @@ entriesOf n r (k ∷ ks) = record { key = k; found = extent n r k ks } ∷ entri
 
 -- the top-level entries of a document that have a key
 abbrev pub entries : List ℕ → List Entry
-entries d = entriesOf (length d) (refusalIn (parse d)) (keysOf (topEntries 0 0 (parse d)))
+entries d = entriesOf (length d) (refusalIn (parse d)) (topKeys (parse d))
 
 -- whether a key's text, unescaped, is the bytes w; a key that unescaping refuses has no name
 abbrev pub isNamed : List ℕ → List ℕ → Key → Bool

@@ -24,18 +24,17 @@ use Rattle.unescape_pieces.proofs.Starts.{part-means, pieces-mean}
 use Rattle.unescape_pieces.proofs.Ends.{Ends}
 use Rattle.unescape_pieces.proofs.Turns.{run-moves, run-length}
 use Rattle.unescape_pieces.proofs.Walked.{Walked, begins, on-run, on-scalar, at-end, at-code, at-refused}
-use Rattle.unescape_source.specs.Source.{sourceOf, sound, sourceIn}
+use Rattle.unescape_source.specs.Source.{sourceOf, meaningIn, sound, sourceIn}
 use Rattle.unescape_source.specs.declared.source.Source.{Source}
 use Rattle.unescape_source.specs.declared.source.Checked.{Checked}
 use Rattle.unescape_source.specs.declared.source.Checked.the-variants as source
 use Rattle.unescape_source.proofs.Sound.{read}
 use Rattle.token_text.specs.Text.{textBy, textIn, isText}
 
--- a text that begins otherwise is another one, whatever follows
+-- bytes that begin otherwise are others, whatever follows; so a text that does is not the wanted one
 differs : (a b s : List ℕ) → startsWith a s ≡ false → isSame (a ++ b) s ≡ false
 differs a b s e = same-starts (a ++ b) s ∙ rw (starts-append a b s, e)
 
--- a text that begins otherwise is not the wanted one, whatever follows
 never : (w wanted s : List ℕ) (k : ℕ) (m : Meaning) → Ends k (written w m) → startsWith w wanted ≡ false → isText (textBy (written w m) 0 s) wanted ≡ false
 never w wanted s k (part a e) x f = absurd x
 never w wanted s k (bytes l) x f = differs w l wanted f
@@ -145,13 +144,13 @@ module _ (d : List ℕ) (t : Token) (w : List ℕ) where
         by-bool (ltb 16777216 (length d)) (λ l. sym (rw l)) (λ l. sym (rw (l, m)))
 
     abbrev meant : Bool
-    meant = isText (textBy (meaning (x .style) (bytesOf d (x .text)) (bytesOf d (x .indent))) 0 (bytesOf d (x .text))) w
+    meant = isText (textBy (meaningIn d x) 0 (bytesOf d (x .text))) w
 
     read-text : {y : Source} → sourceIn d t ≡ source.Readable y → meant ≡ isText (textIn d t) w
     unfolding textIn
     read-text {y} e =
         let z = q ∙ read d t e .is in
-        rw (e, z) (any-place (meaning (y .style) (bytesOf d (y .text)) (bytesOf d (y .indent))) (y .text .start) (bytesOf d (y .text)) w)
+        rw (e, z) (any-place (meaningIn d y) (y .text .start) (bytesOf d (y .text)) w)
 
     module _ {b : Bool} (m : b ≡ meant) where
       pub same-text : {y : Source} → b ≡ true → sourceIn d t ≡ source.Readable y → true ≡ isText (textIn d t) w

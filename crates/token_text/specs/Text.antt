@@ -10,9 +10,8 @@ use Rattle.text.specs.Numbers.{invalidEscape}
 use Rattle.text.specs.declared.bytes.Part.{Part}
 use Rattle.tokenizer.specs.Step.{bytesOf, noPart}
 use Rattle.tokenizer.specs.declared.token.Token.{Token}
-use Rattle.unescape_pieces.specs.Meaning.{Meaning, part, bytes, code, refused, meaning}
-use Rattle.unescape_source.specs.Source.{sourceIn}
-use Rattle.unescape_source.specs.declared.source.Source.{Source}
+use Rattle.unescape_pieces.specs.Meaning.{Meaning, part, bytes, code, refused}
+use Rattle.unescape_source.specs.Source.{meaningIn, sourceIn}
 use Rattle.unescape_source.specs.declared.source.Checked.{Checked}
 use Rattle.unescape_source.specs.declared.source.Checked.the-variants.{Readable, Refused}
 
@@ -30,7 +29,7 @@ textBy (refused r) n s = fails r noPart
 
 -- a source of the document d, or why there is none
 abbrev pub textOf : List ℕ → Checked → Text
-textOf d (Readable w) = textBy (meaning (w .style) (bytesOf d (w .text)) (bytesOf d (w .indent))) (w .text .start) (bytesOf d (w .text))
+textOf d (Readable w) = textBy (meaningIn d w) (w .text .start) (bytesOf d (w .text))
 textOf d (Refused n l) = fails n noPart
 
 -- a token's text

@@ -20,7 +20,7 @@ use Rattle.unescape_pieces.specs.declared.start.Start.the-variants.{Plain, Piec
 use Rattle.unescape_pieces.proofs.Starts.{part-means, part-lies, pieces-mean, pieces-lie}
 use Rattle.unescape_pieces.proofs.Ends.{Ends, pieces-end}
 use Rattle.unescape_pieces.proofs.Turns.{nested-part}
-use Rattle.unescape_source.specs.Source.{sound, sourceIn}
+use Rattle.unescape_source.specs.Source.{meaningIn, sound, sourceIn}
 use Rattle.unescape_source.specs.declared.source.Source.{Source}
 use Rattle.unescape_source.specs.declared.source.Checked.the-variants as source
 use Rattle.unescape_source.proofs.Sound.{sound-fits, read}
@@ -35,7 +35,7 @@ module _ (d : List ℕ) (t : Token) (o : List ℕ) where
   unread e = rw e
 
   pub ruled : {w : Source} {l : ℕ} → sourceIn d t ≡ source.Readable w → l ≡ lineOf t
-      → unescapeOf d t o ≡ delivered (meaning (w .style) (bytesOf d (w .text)) (bytesOf d (w .indent))) (w .text .start) l o
+      → unescapeOf d t o ≡ delivered (meaningIn d w) (w .text .start) l o
   unfolding unescapeOf
   ruled e z = rw (e, z)
 

@@ -9,9 +9,8 @@ use Rattle.text.specs.Numbers.{invalidEscape, shortBuffer}
 use Rattle.tokenizer.specs.Token.{lineOf}
 use Rattle.tokenizer.specs.Step.{bytesOf, noPart}
 use Rattle.tokenizer.specs.declared.token.Token.{Token}
-use Rattle.unescape_pieces.specs.Meaning.{Meaning, part, bytes, code, refused, meaning}
-use Rattle.unescape_source.specs.Source.{sourceIn}
-use Rattle.unescape_source.specs.declared.source.Source.{Source}
+use Rattle.unescape_pieces.specs.Meaning.{Meaning, part, bytes, code, refused}
+use Rattle.unescape_source.specs.Source.{meaningIn, sourceIn}
 use Rattle.unescape_source.specs.declared.source.Checked.{Checked}
 use Rattle.unescape_source.specs.declared.source.Checked.the-variants as source
 use Rattle.unescape.specs.declared.Answer.{Answer}
@@ -38,9 +37,6 @@ delivered (bytes w) n l o =
     (keptBuffer (refusal shortBuffer l) o)
 delivered (code a e) n l o = keptBuffer (Refused invalidEscape l (record { start = n + a; end = n + e })) o
 delivered (refused r) n l o = keptBuffer (refusal r l) o
-
-abbrev pub meaningIn : List ℕ → Source → Meaning
-meaningIn d w = meaning (w .style) (bytesOf d (w .text)) (bytesOf d (w .indent))
 
 -- a source on line l, or its refusal
 abbrev pub sourceDelivered : List ℕ → Checked → ℕ → List ℕ → Unescaped

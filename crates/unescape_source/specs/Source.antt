@@ -23,6 +23,7 @@ use Rattle.tokenizer.specs.declared.token.Token.the-variants.{
   MultilineValue,
   NoValue,
 }
+use Rattle.unescape_pieces.specs.Meaning.{Meaning, meaning}
 use Rattle.unescape_pieces.specs.declared.start.Style.{Style}
 use Rattle.unescape_pieces.specs.declared.start.Style.the-variants.{AsIs, Entry, Block}
 use Rattle.unescape_source.specs.declared.source.Source.{Source}
@@ -44,6 +45,10 @@ sourceOf (Value l p) = sourceAt Entry p
 sourceOf (MultilineHint l p) = sourceAt AsIs p
 sourceOf (MultilineValue l i p) = record { style = Block; text = p; indent = i }
 sourceOf (NoValue l) = sourceAt AsIs noPart
+
+-- what the text of a source means
+abbrev pub meaningIn : List ℕ → Source → Meaning
+meaningIn d w = meaning (w .style) (bytesOf d (w .text)) (bytesOf d (w .indent))
 
 -- a part that does not start after its end, nor end past the document, and is UTF-8; else 13
 unfoldable pub sound : List ℕ → Part → Bool
