@@ -34,7 +34,6 @@ use Rattle.unescape_pieces.specs.Meaning.{Meaning, part, bytes, code, refused, 
 use Rattle.unescape_source.specs.Source.{sourceAt, sourceOf, meaningIn}
 use Rattle.unescape_pieces.specs.declared.start.Style.{Style}
 use Rattle.unescape_pieces.specs.declared.start.Style.the-variants.{AsIs, Entry, Block}
-use Rattle.unescape_source.specs.declared.source.Source.{Source}
 use Rattle.unescape_pieces.proofs.Proper.{Proper, meaning-proper}
 use Rattle.unescape.specs.Unescape.{Unescaped, delivered, unescapeOf}
 use Rattle.unescape.specs.declared.Answer.{Answer}

@@ -2,7 +2,7 @@
 -- keys in quotes.
 use Prim.Native.Nat.{ℕ}
 use mathlib.Core.Path.{_≡_, refl}
-use mathlib.Core.List.{List, [], _∷_}
+use mathlib.Core.List.{List, []}
 use Rattle.text.specs.Ascii.{ascii}
 use Rattle.tokenizer.proofs.Examples.{part}
 use Rattle.token_text.proofs.Examples.{rules as textRules}

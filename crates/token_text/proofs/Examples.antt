@@ -3,7 +3,6 @@ use Prim.Native.Nat.{ℕ}
 use mathlib.Core.Path.{_≡_, refl}
 use mathlib.Core.List.{List, []}
 use mathlib.Core.Bool.{Bool, true, false}
-use lib.ListN.{length}
 use Rattle.text.specs.Ascii.{ascii}
 use Rattle.text.specs.Bytes.{isSame}
 use Rattle.utf8.specs.Utf8.{owes, utf8}
@@ -14,7 +13,7 @@ use Rattle.tokenizer.specs.declared.token.Token.the-variants.{MapKey, Value, Mu
 use Rattle.unescape_pieces.specs.Meaning.{meaning}
 use Rattle.unescape_pieces.proofs.Examples.{rules as meaningRules}
 use Rattle.unescape_source.specs.Source.{sourceOf, sound, sourceIn}
-use Rattle.token_text.specs.Text.{Text, gives, fails, textIn, isText}
+use Rattle.token_text.specs.Text.{gives, fails, textIn, isText}
 
 -- the key of so many bytes that a document begins with
 abbrev key : ℕ → Token

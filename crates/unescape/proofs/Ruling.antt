@@ -1,11 +1,11 @@
 -- The branches of `unescapeOf` and `plainOf`: a token that may not be read, and else what the text's meaning delivers.
-use Prim.Native.Nat.{ℕ, _+_, _-_, _≤_}
+use Prim.Native.Nat.{ℕ, _-_}
 use mathlib.Core.Path.{_≡_, refl, sym}
 use mathlib.Core.List.{List, []}
 use mathlib.Core.Bool.{true}
 use native.Mathlib.Omega.{arith}
 use lib.Dec.{leb}
-use lib.ListN.{length, take, drop, length-drop}
+use lib.ListN.{length, drop, length-drop}
 use lib.Seq.{length-take-le}
 use Rattle.text.specs.declared.bytes.Part.{Part}
 use Rattle.text.proofs.Cases.{by-bool}

@@ -1,20 +1,17 @@
 -- One law for every loop over a text's pieces (measuring, surveying, comparing, writing): the meaning from where the loop began is what
 -- was passed so far, w, written in front of the meaning from the cursor on. A loop's invariant is then: there is a w with this, and
 -- what the loop keeps is a function of w.
-use Prim.Native.Nat.{ℕ, _+_, _-_, _*_, _≤_, _<_}
+use Prim.Native.Nat.{ℕ, _+_, _-_, _≤_}
 use mathlib.Core.Path.{_≡_, refl, sym, ap, _∙_}
-use mathlib.Core.List.{List, [], _∷_, _++_, append-assoc, append-nil}
-use native.Mathlib.Omega.{arith}
+use mathlib.Core.List.{List, [], _++_, append-assoc, append-nil}
 use lib.ListN.{length, take, drop}
 use Rattle.utf8.specs.Scalar.{encodingOf}
 use Rattle.unescape_pieces.specs.Meaning.{Meaning, part, bytes, code, refused, written}
 use Rattle.unescape_pieces.specs.Pieces.{meaningFrom, nextOf}
 use Rattle.unescape_pieces.specs.declared.pieces.Next.{Next}
-use Rattle.unescape_pieces.specs.declared.pieces.Piece.{Piece}
 use Rattle.unescape_pieces.specs.declared.pieces.Piece.the-variants.{Run, Scalar, End, Code, Refused}
 use Rattle.unescape_pieces.specs.declared.pieces.Spot.{Spot}
-use Rattle.unescape_pieces.proofs.Walking.{weight}
-use Rattle.unescape_pieces.proofs.Turns.{Moved, meant, run-moves, scalar-moves}
+use Rattle.unescape_pieces.proofs.Turns.{meant, run-moves, scalar-moves}
 
 written-twice : (a b : List ℕ) (m : Meaning) → written a (written b m) ≡ written (a ++ b) m
 written-twice a b (part s e) = refl

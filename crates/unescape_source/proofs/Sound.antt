@@ -16,7 +16,6 @@ use Rattle.tokenizer.specs.Step.{bytesOf, fitPart}
 use Rattle.tokenizer.specs.declared.token.Token.{Token}
 use Rattle.unescape_source.specs.Source.{sourceOf, sound, sourceIn}
 use Rattle.unescape_source.specs.declared.source.Source.{Source}
-use Rattle.unescape_source.specs.declared.source.Checked.{Checked}
 use Rattle.unescape_source.specs.declared.source.Checked.the-variants.{Readable, Refused}
 
 pub fit-lies : (n : ℕ) (p : Part) → fitPart n p ≡ true → (p .start ≤ p .end) × (p .end ≤ n)

@@ -1,6 +1,4 @@
 -- `source_in` takes the branches of its rule (proofs/Sound).
-use mathlib.Core.Path.{sym, _∙_}
-use borrow.Author.Tests.{not-true, not-false}
 use Rattle.unescape_source.proofs.Sound.{over, both-sound, not-sound}
 use borrow.Author.Needs.{needs}
 use Rattle.unescape_source.proofs.source.source_in.Statement.{statement}
