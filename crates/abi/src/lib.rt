@@ -139,8 +139,8 @@ pub extern "C" fn conl_unescape_text(
     answer_words::unescape_text(kind, line, text, indent, out, answer)
 }
 
-// Looks up the first top-level key with the bytes of wanted, and writes the answer at the front of its words: 0, 0, 0,
-// 0, 0 for nothing; 1, 0, the key's line, start and end of its entry; 2, a refusal's number, its line, 0, 0. False,
+// Looks up the first top-level key whose text, unescaped, is wanted, and writes the answer at the front of its words: 0,
+// 0, 0, 0, 0 for nothing; 1, 0, the key's line, start and end of its entry; 2, a refusal's number, its line, 0, 0. False,
 // with nothing written, where there are fewer than five words for the answer.
 #[no_mangle]
 pub extern "C" fn conl_look_up(doc: &[u8], wanted: &[u8], answer: &mut [usize]) -> bool

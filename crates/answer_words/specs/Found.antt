@@ -15,7 +15,7 @@ foundWords Nothing = 0 ∷ 0 ∷ 0 ∷ 0 ∷ 0 ∷ []
 foundWords (At l p) = 1 ∷ 0 ∷ l ∷ p .start ∷ p .end ∷ []
 foundWords (Refused n l) = 2 ∷ n ∷ l ∷ 0 ∷ 0 ∷ []
 
--- the words a with the answer at their front, d being the document and w the key that is wanted; unchanged where there are
+-- the words a with the answer at their front, d being the document and w the name that is wanted; unchanged where there are
 -- fewer than five
 unfoldable pub foundIn : List ℕ → List ℕ → List ℕ → List ℕ
 foundIn d w a = cond (leb answerSize (length a)) (foundWords (lookUp d w) ++ drop answerSize a) a

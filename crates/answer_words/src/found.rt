@@ -16,7 +16,7 @@ fn found_words(f: Found) -> [usize; 5]
     }
 }
 
-// Looks the key up and writes the answer at the front of its words: true; or false, with nothing written, where there are fewer
+// Looks the name up and writes the answer at the front of its words: true; or false, with nothing written, where there are fewer
 // than five.
 pub fn look_up(doc: &[u8], wanted: &[u8], answer: &mut [usize]) -> bool
     ensures { λ r. ⌜ r ≡ leb 5 (length (now (answer .entry))) ⌝ }

@@ -90,7 +90,7 @@ fn keys(document: &[u8], rows: &[Row]) -> Vec<Key> {
     keys
 }
 
-/// What the original makes of a key's text.
+/// What is due of a key's text, where it is not refused.
 fn name_of(document: &[u8], key: &Row) -> Option<Vec<u8>> {
     let text = str::from_utf8(&document[key.start..key.end]).expect("a token is UTF-8");
     let name = plus::unescape(&Token::MapKey(key.line, text)).ok()?;
