@@ -3,8 +3,8 @@
 use mathlib.Core.Path.{_≡_}
 use mathlib.Core.List.{List, [], _∷_, _++_}
 use lib.ListN.{length}
+use Rattle.text.specs.Bytes.{part}
 use Rattle.text.specs.Ascii.{ascii}
-use Rattle.text.specs.declared.bytes.Part.{Part}
 use Rattle.tokenizer.specs.Lists.{tokens}
 use Rattle.tokenizer.specs.declared.token.Token.the-variants as token
 use Rattle.tokenizer.specs.declared.state.Answer.the-variants as came
@@ -14,9 +14,6 @@ use Rattle.listing_text.specs.Listing.{listingOf}
 use Rattle.unescape.specs.Unescape.{Unescaped, unescapeOf}
 use Rattle.unescape.specs.declared.Answer.the-variants.{Written, Refused}
 use Prim.Native.Nat.{ℕ}
-
-abbrev pub part : ℕ → ℕ → Part
-part a e = record { start = a; end = e }
 
 -- a value on line 1 that is a whole document, unescaped with six bytes of room, which are dots
 abbrev pub value : List ℕ → Unescaped

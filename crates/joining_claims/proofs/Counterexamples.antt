@@ -5,14 +5,14 @@ use mathlib.Core.List.{List, [], _∷_, _++_}
 use mathlib.Core.Bool.{true}
 use native.Mathlib.Omega.{arith}
 use lib.ListN.{length}
-use Rattle.text.specs.Bytes.{shiftedBy}
+use Rattle.text.specs.Bytes.{part, shiftedBy}
 use Rattle.text.specs.Ascii.{ascii}
 use Rattle.tokenizer_scans.specs.Scans.{breaks}
 use Rattle.tokenizer.specs.Lists.{tokens}
 use Rattle.tokenizer.specs.declared.token.Token.the-variants.{Newline, Comment, Indent, Outdent, MapKey, NoValue}
 use Rattle.tokenizer.specs.declared.state.Answer.{Answer}
 use Rattle.tokenizer.specs.declared.state.Answer.the-variants.{Token}
-use Rattle.tokenizer.proofs.Examples.{part, rules}
+use Rattle.tokenizer.proofs.Examples.{rules}
 use Rattle.parser.specs.Lists.{parse}
 use Rattle.parser_rules.specs.declared.ruling.Answer.{Answer as Said}
 use Rattle.parser_rules.specs.declared.ruling.Answer.the-variants.{Token as said, Refused as refuses}

@@ -4,7 +4,7 @@ use Prim.Native.Nat.{ℕ}
 use mathlib.Core.Path.{_≡_, refl}
 use mathlib.Core.List.{List, []}
 use Rattle.text.specs.Ascii.{ascii}
-use Rattle.tokenizer.proofs.Examples.{part}
+use Rattle.text.specs.Bytes.{part}
 use Rattle.token_text.proofs.Examples.{rules as textRules}
 use Rattle.parser.specs.Lists.{topEntries}
 use Rattle.parser.proofs.Examples.{rules as parserRules}

@@ -4,7 +4,7 @@ use mathlib.Core.Path.{_≡_, refl}
 use mathlib.Core.List.{List, [], _∷_}
 use Rattle.text.specs.Ascii.{ascii}
 use Rattle.tokenizer.specs.declared.token.Token.the-variants as token
-use Rattle.tokenizer.proofs.Examples.{part}
+use Rattle.text.specs.Bytes.{part}
 use Rattle.tokenizer.proofs.Examples.{rules as tokenRules}
 use Rattle.parser_rules.specs.Ruling.{onEntry, onOutdent, onIndent, settled, afterEntry, afterHint, onToken, onEnd, rulingOf}
 use Rattle.parser.specs.Lists.{feed, parsed, parse}

@@ -3,7 +3,7 @@
 use Prim.Native.Nat.{ℕ}
 use mathlib.Core.Path.{_≡_, refl}
 use mathlib.Core.Bool.{Bool, true, false}
-use Rattle.text.specs.declared.bytes.Part.{Part}
+use Rattle.text.specs.Bytes.{part}
 use Rattle.tokenizer.specs.declared.token.Token.{Token}
 use Rattle.tokenizer.specs.declared.token.Token.the-variants.{Newline, Indent, Outdent, ListItem, MapKey, Value}
 use Rattle.tokenizer.specs.declared.state.Answer.the-variants as came
@@ -19,9 +19,6 @@ use Rattle.parser_rules.specs.declared.ruling.Change.{Change}
 use Rattle.parser_rules.specs.declared.ruling.Change.the-variants.{Keep, Fix, Open, Close}
 use Rattle.parser_rules.specs.declared.ruling.Ruling.{Ruling}
 use Rattle.parser_rules.specs.declared.ruling.Ruling.the-variants.{Says}
-
-abbrev part : ℕ → ℕ → Part
-part a b = record { start = a; end = b }
 
 -- the token is given on
 abbrev given : Token → Awaited → Change → Ruling

@@ -3,10 +3,9 @@ use Prim.Native.Nat.{ℕ}
 use mathlib.Core.Path.{_≡_, refl}
 use mathlib.Core.List.{List, [], _∷_}
 use Rattle.text.specs.Ascii.{ascii}
-use Rattle.text.specs.Bytes.{isBlank, isBreak, breakSize, countWhile, startsWith}
+use Rattle.text.specs.Bytes.{isBlank, isBreak, breakSize, countWhile, startsWith, part}
 use Rattle.text.specs.Trimming.{dropped, keptEnd, trimmed}
 use Rattle.utf8.specs.Utf8.{within, leadOf, owes, utf8}
-use Rattle.text.specs.declared.bytes.Part.{Part}
 use Rattle.tokenizer_scans.specs.Scans.{
   blanks,
   relationOf,
@@ -49,9 +48,6 @@ use Rattle.tokenizer.specs.Lists.{isEnd, run, tokens}
 use Rattle.tokenizer.specs.declared.token.Token.the-variants as token
 use Rattle.tokenizer.specs.declared.state.Answer.{Answer}
 use Rattle.tokenizer.specs.declared.state.Answer.the-variants.{Token, Refused}
-
-abbrev pub part : ℕ → ℕ → Part
-part a b = record { start = a; end = b }
 
 -- what computing a reading unfolds
 unfoldable pub rules : List ℕ → List Answer

@@ -4,10 +4,9 @@ use mathlib.Core.Path.{_≡_, refl}
 use mathlib.Core.List.{List, [], _∷_}
 use mathlib.Core.Bool.{Bool, true, false}
 use Rattle.text.specs.Ascii.{ascii}
-use Rattle.text.specs.Bytes.{isBlank, isBreak, breakSize, countWhile, startsWith}
+use Rattle.text.specs.Bytes.{isBlank, isBreak, breakSize, countWhile, startsWith, part}
 use Rattle.text.specs.Trimming.{dropped, keptEnd, trimmed}
 use Rattle.utf8.specs.Utf8.{within, leadOf, owes, utf8}
-use Rattle.text.specs.declared.bytes.Part.{Part}
 use Rattle.tokenizer_scans.specs.Scans.{
   relationOf,
   stops,
@@ -62,9 +61,6 @@ use Rattle.tokenizer_rules.specs.declared.plan.Says.the-variants.{
 use Rattle.tokenizer_rules.specs.declared.plan.Change.{Change}
 use Rattle.tokenizer_rules.specs.declared.plan.Change.the-variants.{Keep, Open, Close, Hold}
 use Rattle.tokenizer_rules.specs.declared.plan.Plan.{Plan}
-
-abbrev part : ℕ → ℕ → Part
-part a e = record { start = a; end = e }
 
 abbrev marks : Bool → Bool → Bool → Marks
 marks i v m = record { indent = i; value = v; multiline = m }

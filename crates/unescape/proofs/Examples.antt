@@ -4,9 +4,9 @@ use Prim.Native.Nat.{ℕ}
 use mathlib.Core.Path.{_≡_, refl}
 use mathlib.Core.List.{List, [], _∷_, _++_}
 use lib.ListN.{length}
+use Rattle.text.specs.Bytes.{part}
 use Rattle.text.specs.Ascii.{ascii}
 use Rattle.utf8.specs.Utf8.{owes, utf8}
-use Rattle.text.specs.declared.bytes.Part.{Part}
 use Rattle.tokenizer.specs.Token.{lineOf}
 use Rattle.tokenizer.specs.declared.token.Token.{Token}
 use Rattle.tokenizer.specs.declared.token.Token.the-variants.{Value, MultilineValue}
@@ -18,9 +18,6 @@ use Rattle.unescape_pieces.proofs.Examples.{rules}
 use Rattle.unescape.specs.Unescape.{Unescaped, delivered, unescapeOf}
 use Rattle.unescape.specs.Texts.{styleOf, unescapeTextOf}
 use Rattle.unescape.specs.declared.Answer.the-variants.{Plain, Written, Refused}
-
-abbrev pub part : ℕ → ℕ → Part
-part a e = record { start = a; end = e }
 
 -- a value on line 1 that is a whole document, with six bytes of room
 abbrev pub value : List ℕ → Unescaped

@@ -3,6 +3,5 @@ mod source;
 
 pub use source::Checked;
 pub use source::Source;
-pub use source::is_sound;
 pub use source::source_in;
 pub use source::source_of;

@@ -62,7 +62,7 @@ pub fn source_of(t: Token) -> Source
 }
 
 // Whether p is a part of the document, and UTF-8.
-pub fn is_sound(doc: &[u8], p: Part) -> bool
+fn is_sound(doc: &[u8], p: Part) -> bool
     ensures { λ r. ⌜ r ≡ sound (now (doc .entry)) p ⌝ }
 {
     let start = p.start;
