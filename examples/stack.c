@@ -15,7 +15,7 @@
 #include <string.h>
 
 /* PROMISED is the figure of README. */
-enum { STACK = 1 << 18, PAINT = 0xA5, MOST = 1 << 16, ROOM = 64, PROMISED = 5 << 10 };
+enum { STACK = 1 << 18, PAINT = 0xA5, MOST = 1 << 16, ROOM = 64, PROMISED = 6 << 10 };
 
 static _Alignas(4096) uint8_t stack[STACK];
 static uint8_t layout[MOST], out[MOST];

@@ -39,7 +39,7 @@ extern "C" {
  * The version of this header, and the library's: raised when the words of a row, a state or an
  * answer change, or what they stand for. Where the two differ, nothing below need be so.
  */
-#define CONL_VERSION 1
+#define CONL_VERSION 2
 size_t conl_version(void);
 
 /* The most bytes of a document, and the most sections that may be open. */
@@ -48,7 +48,7 @@ size_t conl_version(void);
 
 /* How many words a tokenizer's state, a parser's state, a row and an answer have. */
 #define CONL_TOKENIZER_WORDS 137
-#define CONL_PARSER_WORDS 213
+#define CONL_PARSER_WORDS 278
 #define CONL_ROW_WORDS 7
 #define CONL_ANSWER_WORDS 5
 
@@ -64,7 +64,7 @@ enum conl_row_word {
     CONL_ROW_END,          /* where it ends: where it starts, if it is empty */
     CONL_ROW_INDENT_START, /* where a multiline value's indentation starts */
     CONL_ROW_INDENT_END,   /* where it ends */
-    CONL_ROW_SPARE         /* 0 */
+    CONL_ROW_OPENED        /* of an Outdent of the parser's: the line of the key or item that closes */
 };
 
 /* What a row adds to a refusal's number. */
@@ -162,7 +162,7 @@ enum conl_text {
 
 /*
  * Unescapes the text of a token of the document: of `row`, as conl_tokenize or conl_parse wrote it,
- * with or without the spare word. The text of a kind that has none is the empty part at 0. A key or
+ * with or without its last word. The text of a kind that has none is the empty part at 0. A key or
  * a value in quotes may have the escapes \" \\ \n \r \t and \{h}, where h is 1 to 8 hexadecimal
  * digits that name a scalar value; any other is refused by 8.
  *

@@ -79,7 +79,8 @@ static void check_row(const struct reader *reader, const size_t *row)
         expect(number >= CONL_NEWLINE && number <= reader->kinds, "no such kind");
         kinds[number]++;
     }
-    expect(row[CONL_ROW_SPARE] == 0, "the spare word is not 0");
+    bool closes = reader->steps == PARSE && number == CONL_OUTDENT;
+    expect(closes || row[CONL_ROW_OPENED] == 0, "a row that closes nothing carries a line");
 }
 
 /* Takes steps: how many; or CONL_NO_STEP and a refusal. The state's words are then those after them. */

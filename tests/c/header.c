@@ -36,12 +36,12 @@ struct reader {
 static const struct reader tokenizer = {conl_fresh_tokenizer, conl_tokenize, CONL_TOKENIZER_WORDS};
 static const struct reader parser = {conl_fresh_parser, conl_parse, CONL_PARSER_WORDS};
 
-/* A reading: each row as its number, line, start, end, and the indentation's start and end. */
+/* A reading: each row as its number, line, start, end, the indentation's start and end, and the line that closes. */
 struct reading {
     const struct reader *reader;
     const uint8_t *doc;
     size_t doc_len;
-    size_t expected[9][6];
+    size_t expected[9][7];
 };
 
 static const struct reading readings[] = {
@@ -72,7 +72,7 @@ static const struct reading readings[] = {
       {CONL_LIST_ITEM, 2},
       {CONL_VALUE, 2, 6, 9},
       {CONL_NEWLINE, 2},
-      {CONL_OUTDENT, 3}}},
+      {CONL_OUTDENT, 3, 0, 0, 0, 0, 1}}},
     {&parser, TEXT("a"), {{CONL_MAP_KEY, 1, 0, 1}, {CONL_NO_VALUE, 1}}},
     {&parser, TEXT("a\n\xFF"),
      {{CONL_MAP_KEY, 1, 0, 1}, {CONL_NEWLINE, 1}, {CONL_REFUSED + CONL_INVALID_UTF8, 2}}},
@@ -99,14 +99,14 @@ static bool is_row(const size_t *row, const size_t *expected)
     return row[CONL_ROW_NUMBER] == expected[0] && row[CONL_ROW_LINE] == expected[1]
         && row[CONL_ROW_START] == expected[2] && row[CONL_ROW_END] == expected[3]
         && row[CONL_ROW_INDENT_START] == expected[4] && row[CONL_ROW_INDENT_END] == expected[5]
-        && row[CONL_ROW_SPARE] == 0;
+        && row[CONL_ROW_OPENED] == expected[6];
 }
 
 /* Two rows at a time: a word less than a third row has is no room for it. */
 static bool is_read(const struct reading *reading)
 {
     const struct reader *reader = reading->reader;
-    const size_t (*expected)[6] = reading->expected;
+    const size_t (*expected)[7] = reading->expected;
     size_t state[CONL_PARSER_WORDS + CONL_TOKENIZER_WORDS], rows[3 * CONL_ROW_WORDS - 1], count;
     if (!reader->fresh(state, reader->words))
         return false;
@@ -164,8 +164,8 @@ static bool ends_nested(size_t keys, const size_t *expected)
 
 static void try_sections(void)
 {
-    const size_t closed[6] = {CONL_OUTDENT, CONL_MAX_OPEN + 2};
-    const size_t refused[6] = {CONL_REFUSED + CONL_TOO_MANY_OPEN, CONL_MAX_OPEN + 2};
+    const size_t closed[7] = {CONL_OUTDENT, CONL_MAX_OPEN + 2, 0, 0, 0, 0, 1};
+    const size_t refused[7] = {CONL_REFUSED + CONL_TOO_MANY_OPEN, CONL_MAX_OPEN + 2};
     CHECK(ends_nested(CONL_MAX_OPEN + 1, closed));
     CHECK(ends_nested(CONL_MAX_OPEN + 2, refused));
 }
@@ -238,8 +238,8 @@ static void try_unescape(void)
             failures++;
         }
     row[CONL_ROW_NUMBER] = CONL_NO_VALUE;
-    CHECK(conl_unescape(TEXT(""), row, CONL_ROW_SPARE, out, 1, answer, CONL_ANSWER_WORDS));
-    CHECK(!conl_unescape(TEXT(""), row, CONL_ROW_SPARE - 1, out, 1, answer, CONL_ANSWER_WORDS));
+    CHECK(conl_unescape(TEXT(""), row, CONL_ROW_OPENED, out, 1, answer, CONL_ANSWER_WORDS));
+    CHECK(!conl_unescape(TEXT(""), row, CONL_ROW_OPENED - 1, out, 1, answer, CONL_ANSWER_WORDS));
     CHECK(!conl_unescape(TEXT(""), row, CONL_ROW_WORDS, out, 1, answer, CONL_ANSWER_WORDS - 1));
     row[CONL_ROW_NUMBER] = CONL_REFUSED + CONL_INVALID_UTF8;
     CHECK(!conl_unescape(TEXT(""), row, CONL_ROW_WORDS, out, 1, answer, CONL_ANSWER_WORDS));

@@ -7,7 +7,7 @@
 enum fault {
     READS_BEHIND, READS_BEFORE, WRITES_BEHIND, WRITES_BEFORE, WRITES_CONST, WRITES_MORE_WORDS,
     WRITES_SHORT_PART, NEVER_RETURNS, WRITES_REFUSED_STATE, WRITES_BEHIND_STATE, WRITES_BEHIND_ROWS,
-    USES_SPARE_WORD, PLACES_OUTSIDE, ANSWERS_BY_ADDRESS
+    CARRIES_A_LINE, PLACES_OUTSIDE, ANSWERS_BY_ADDRESS
 };
 
 bool __real_conl_trim(const uint8_t *s, size_t s_len, bool breaks, size_t *part, size_t part_len);
@@ -51,8 +51,8 @@ size_t __wrap_conl_parse(const uint8_t *doc, size_t doc_len, size_t *state, size
         state[CONL_PARSER_WORDS]++;
     if (FAULT == WRITES_BEHIND_ROWS && rows_len > CONL_ROW_WORDS * count)
         rows[CONL_ROW_WORDS * count]++;
-    if (FAULT == USES_SPARE_WORD && count > 0)
-        rows[CONL_ROW_SPARE]++;
+    if (FAULT == CARRIES_A_LINE && count > 0)
+        rows[CONL_ROW_OPENED]++;
     if (FAULT == PLACES_OUTSIDE && count > 0)
         rows[CONL_ROW_END] = doc_len + 1;
     if (FAULT == ANSWERS_BY_ADDRESS && (uintptr_t)doc % 2 == 1)

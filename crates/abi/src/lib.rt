@@ -16,7 +16,7 @@ ghost use Rattle.answer_words.specs.Found.{foundIn};
 ghost use Rattle.abi.specs.Lent.{whichOf, partIn};
 ghost use Rattle.abi.specs.Version.{version};
 
-const VERSION: usize = 1;
+const VERSION: usize = 2;
 
 // The version of the words that cross: of rows, states and answers. CONL_VERSION of conl.h is the same.
 #[no_mangle]
@@ -82,7 +82,7 @@ pub extern "C" fn conl_tokenize(doc: &[u8], state: &mut [usize], rows: &mut [usi
 }
 
 // Writes the parser's fresh state at the front of the words: true; or false, with state unchanged, where there are
-// fewer than 213.
+// fewer than 278.
 #[no_mangle]
 pub extern "C" fn conl_fresh_parser(state: &mut [usize]) -> bool
     ensures { λ r. ⌜ r ≡ leb parserSize (length (now (state .entry))) ⌝ }

@@ -18,7 +18,7 @@ use Rattle.look_up.specs.declared.search.Found.the-variants as found
 use Rattle.answer_words.specs.Texts.{answerSize, answerWords, isToken, textOf}
 use Rattle.answer_words.specs.Found.{foundWords, foundIn}
 
--- a token's row, with its spare word or without it, is unescaped as the token is, with every buffer
+-- a token's row, with its last word or without it, is unescaped as the token is, with every buffer
 abbrev pub RowsUnescaped : Type 0
 RowsUnescaped =
     (d : List ℕ) (t : Token) (r o w : List ℕ) → answerSize ≤ length w

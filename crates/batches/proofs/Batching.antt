@@ -29,7 +29,7 @@ use Rattle.batches.proofs.Branching.{unfit, took, promised}
 use Rattle.parser_words.specs.ParserWords.{parserWords, parserIn, parserReadable, parserStoredIn}
 use Rattle.parser_words.specs.Stops.{isUnfit, isStop}
 use Rattle.batches.specs.Batch.{parsing, parseBatchOf}
-use Rattle.parser_words.proofs.Tests.{has-213, stored-213}
+use Rattle.parser_words.proofs.Tests.{has-278, stored-278}
 use Rattle.step_words.specs.Stepping.{Gone, stepIn}
 use Rattle.batches.specs.Walks.{stepping, lastOf}
 use Rattle.step_words.specs.Claims.{Whole}
@@ -37,7 +37,7 @@ use Rattle.step_words.specs.declared.step.Layer.the-variants.{Tokenizer as Toke
 use Rattle.step_words.proofs.Going.{sections-65, slots-in}
 use Rattle.batches.proofs.Taking.{last-none}
 use Rattle.batches.proofs.Single.{not-unfit}
-use Rattle.step_words.proofs.Whole.{words-213}
+use Rattle.step_words.proofs.Whole.{words-278}
 use Rattle.step_words.proofs.Laws.{parser-steps}
 use Rattle.batches.proofs.Following.{Slotted, tokens-follow, tokens-slotted, parses-follow, parses-whole}
 
@@ -45,7 +45,7 @@ use Rattle.batches.proofs.Following.{Slotted, tokens-follow, tokens-slo
 pub unfit-is : (a : Answer) → eqb (valuesOf a .number) 271 ≡ isUnfit a
 unfolding valuesOf isUnfit
 unfit-is answer.End = refl
-unfit-is (answer.Token t) = ne-eqb (tokenValues t .number) 271 (λ e. let k = kinds t .1 in omega arith)
+unfit-is (answer.Token t o) = ne-eqb (tokenValues t .number) 271 (λ e. let k = kinds t .1 in omega arith)
 unfit-is (answer.Refused n l) =
     by-bool (eqb n 15)
     (λ e. let k : n ≡ 15 = eqb-true n 15 e in rw k)
@@ -95,7 +95,7 @@ module _ (d w rows z v : List ℕ) (l : length d ≤ 16777216) where
       (λ r. rw r)))
 
   -- the parser's: the state is read, and fit
-  module _ (h : 213 ≤ length z) (k : parserReadable w ≡ true) (f : fit (length d) (parserIn w .tokenizer) ≡ true) where
+  module _ (h : 278 ≤ length z) (k : parserReadable w ≡ true) (f : fit (length d) (parserIn w .tokenizer) ≡ true) where
     abbrev s : State
     s = parserIn w
 
@@ -105,10 +105,10 @@ module _ (d w rows z v : List ℕ) (l : length d ≤ 16777216) where
     -- the first step is 15
     first : eqb (stepIn Parses d (parserStoredIn s z) .said .number) 271 ≡ isUnfit (stepOf d s .answer)
     first =
-        let q = parser-steps d s (drop 213 z) l whole in
-        let n : stepIn Parses d (parserWords s ++ drop 213 z) .said .number ≡ valuesOf (stepOf d s .answer) .number =
+        let q = parser-steps d s (drop 278 z) l whole in
+        let n : stepIn Parses d (parserWords s ++ drop 278 z) .said .number ≡ valuesOf (stepOf d s .answer) .number =
         by-bool (isStop (stepOf d s .answer)) (λ e. ap (λ (g : Gone). g .said .number) (rw e at q)) (λ e. ap (λ (g : Gone). g .said .number) (rw e at q)) in
-        rw (stored-213 s z h) (ap (λ x. eqb x 271) n ∙ unfit-is (stepOf d s .answer))
+        rw (stored-278 s z h) (ap (λ x. eqb x 271) n ∙ unfit-is (stepOf d s .answer))
 
     pub starts-unfit : {rows′ : List ℕ} → rows′ ≡ rows → eqb (stepIn Parses d (parserStoredIn s z) .said .number) 271 ≡ true → Leaves (parseBatchOf d w rows) (2 ^ 63 + 15) w rows′
     unfolding parseBatchOf
@@ -136,15 +136,15 @@ module _ (d w rows z v : List ℕ) (l : length d ≤ 16777216) where
     pub parses-done : {n : ℕ} {w′ rows′ : List ℕ} → let x = parserStoredIn s z in let t = taken (stepping Parses d) room x in
         (ltb (length rows) 7 && eqb (stepIn Parses d x .said .number) 271) ≡ false
         → (eqb (length (t .answers)) 0 && eqb (lastOf (stepping Parses d) room x) 271) ≡ false
-        → n ≡ length (t .answers) → v ≡ t .state → rows′ ≡ rowsIn (t .answers) rows → w′ ≡ pastedIn (take 213 v) 0 w → Leaves (parseBatchOf d w rows) n w′ rows′
+        → n ≡ length (t .answers) → v ≡ t .state → rows′ ≡ rowsIn (t .answers) rows → w′ ≡ pastedIn (take 278 v) 0 w → Leaves (parseBatchOf d w rows) n w′ rows′
     unfolding parseBatchOf
     parses-done a c p q r u =
         let i = fair (rw first at a) (rw (none-unfit, first) at c) in
         let t = taken (parsing d) room s in
-        let g = ap (λ x. taken (stepping Parses d) room x) (stored-213 s z h) ∙ parses-follow d (drop 213 z) l room s whole in
+        let g = ap (λ x. taken (stepping Parses d) room x) (stored-278 s z h) ∙ parses-follow d (drop 278 z) l room s whole in
         let b = promised (took _ _ _ _ l k (ap not i)) in
-        let o = parses-whole d (drop 213 z) l room s whole in
-        let m : pastedIn (take 213 v) 0 w ≡ parserWords (t .state) ++ drop 213 w =
-        ap (λ x. pastedIn (take 213 x) 0 w) (q ∙ ap (λ (x : Taken (List ℕ)). x .state) g)
-        ∙ pasted-first (parserWords (t .state)) (drop 213 z) w 213 (words-213 (t .state) (o .slots) (o .sections)) (has-213 w k) in
+        let o = parses-whole d (drop 278 z) l room s whole in
+        let m : pastedIn (take 278 v) 0 w ≡ parserWords (t .state) ++ drop 278 w =
+        ap (λ x. pastedIn (take 278 x) 0 w) (q ∙ ap (λ (x : Taken (List ℕ)). x .state) g)
+        ∙ pasted-first (parserWords (t .state)) (drop 278 z) w 278 (words-278 (t .state) (o .slots) (o .sections)) (has-278 w k) in
         (p ∙ ap (λ (x : Taken (List ℕ)). length (x .answers)) g ∙ b .0, (u ∙ m ∙ b .1 .0, r ∙ ap (λ (x : Taken (List ℕ)). rowsIn (x .answers) rows) g ∙ b .1 .1))

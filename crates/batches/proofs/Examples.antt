@@ -3,7 +3,7 @@
 use Prim.Native.Nat.{ℕ, _+_, _^_}
 use mathlib.Core.Path.{_≡_, refl}
 use mathlib.Core.List.{List, [], _∷_}
-use lib.ListN.{replicate}
+use lib.ListN.{drop, replicate}
 use Rattle.text.specs.Ascii.{ascii}
 use Rattle.tokenizer.specs.Token.{tokenValues}
 use Rattle.tokenizer.specs.Token.{valuesOf as cameValues}
@@ -15,7 +15,7 @@ use Rattle.tokenizer_rows.specs.Rows.{rowsOf, rowsIn, tokenBy, tokenIn}
 use Rattle.tokenizer_words.specs.Words.{flag, heldWords, partWords, frontWords, wordsOf, storedIn, partsIn, stateIn, readable, freshIn}
 use Rattle.parser_words.specs.ParserWords.{
   sortWord,
-  sortWords,
+  sectionWords,
   awaitedWords,
   keptWords,
   middleWords,
@@ -51,7 +51,7 @@ unfolding
     stepOf
     fresh
     sortWord
-    sortWords
+    sectionWords
     awaitedWords
     keptWords
     middleWords
@@ -87,7 +87,13 @@ unfolding tokenBatch
 no-room = refl
 
 -- parsed, it has no value: two rows, and then End
-pub two-rows : parseBatchOf (ascii "a") (freshParserIn (replicate 213 0)) (replicate 21 0) .rows
+pub two-rows : parseBatchOf (ascii "a") (freshParserIn (replicate 278 0)) (replicate 21 0) .rows
     ≡ 6 ∷ 1 ∷ 0 ∷ 1 ∷ 0 ∷ 0 ∷ 0 ∷ 10 ∷ 1 ∷ 0 ∷ 0 ∷ 0 ∷ 0 ∷ 0 ∷ replicate 7 0
 unfolding parseBatch
 two-rows = refl
+
+-- `a` LF ` b`: the last of six rows is that of the Outdent, and its last word is the line of `a`
+pub closing-row : drop 35 (parseBatchOf (ascii "a\n b") (freshParserIn (replicate 278 0)) (replicate 42 0) .rows)
+    ≡ 4 ∷ 2 ∷ 0 ∷ 0 ∷ 0 ∷ 0 ∷ 1 ∷ []
+unfolding parseBatch
+closing-row = refl

@@ -14,7 +14,7 @@ use Rattle.step_words.specs.declared.step.Layer.the-variants.{Parser}
 use Rattle.batches.specs.Batch.{Steps, taken}
 
 abbrev pub valuesBy : Said → Values
-valuesBy s = record { number = s .number; line = s .line; start = s .start; end = s .end; from = s .from; to = s .to }
+valuesBy s = record { number = s .number; line = s .line; start = s .start; end = s .end; from = s .from; to = s .to; opened = s .opened }
 
 -- the steps, from words to words
 abbrev pub stepping : Layer → List ℕ → Steps (List ℕ)

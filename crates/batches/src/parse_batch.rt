@@ -16,7 +16,7 @@ ghost use Rattle.step_words.specs.Stepping.{stepIn};
 ghost use Rattle.step_words.specs.declared.step.Layer.the-variants.{Parser};
 
 // restore_parser with an array, whose length its type tells.
-fn put_parser(n: usize, state: &[usize], words: &mut [usize; 213]) -> bool
+fn put_parser(n: usize, state: &[usize], words: &mut [usize; 278]) -> bool
     ensures { λ r. ⌜ r ≡ (parserReadable (now (state .entry)) && fit n (parserIn (now (state .entry)) .tokenizer)) ⌝ }
     ensures { λ r. ⌜ now (words .exit) ≡ cond r (parserStoredIn (parserIn (now (state .entry))) (now (words .entry))) (now (words .entry)) ⌝ }
 {
@@ -24,7 +24,7 @@ fn put_parser(n: usize, state: &[usize], words: &mut [usize; 213]) -> bool
 }
 
 // Whether the first step is 15 where fewer than seven words leave no room for its row: it is tried on a copy of the words.
-fn starts_unfit(doc: &[u8], words: &[usize; 213], room: usize) -> bool
+fn starts_unfit(doc: &[u8], words: &[usize; 278], room: usize) -> bool
     ensures { λ r. ⌜ r ≡ (ltb room 7 && eqb (stepIn Parser (now (doc .entry)) (now (words .entry)) .said .number) 271) ⌝ }
 {
     if 7 <= room {
@@ -46,7 +46,7 @@ pub fn parse(doc: &[u8], state: &mut [usize], rows: &mut [usize]) -> usize
     if State::MAX_DOCUMENT < doc.len() {
         return TOO_LONG;
     }
-    let mut words = [0usize; 213];
+    let mut words = [0usize; 278];
     if !put_parser(doc.len(), state, &mut words) {
         return UNFIT;
     }
@@ -57,6 +57,6 @@ pub fn parse(doc: &[u8], state: &mut [usize], rows: &mut [usize]) -> usize
     if (t.rows == 0) & (t.last == 271) {
         return UNFIT;
     }
-    put_back(&words, 213, state);
+    put_back(&words, 278, state);
     t.rows
 }

@@ -25,7 +25,7 @@ pub(crate) struct Took {
 }
 
 // Takes answers until End or 15 comes or no room is left for a row. The state stands in the words, and stays there.
-pub(crate) fn take_rows(doc: &[u8], layer: Layer, w: &mut [usize; 213], rows: &mut [usize]) -> Took
+pub(crate) fn take_rows(doc: &[u8], layer: Layer, w: &mut [usize; 278], rows: &mut [usize]) -> Took
     ensures { λ r. ⌜ r .rows ≡ length (taken (stepping layer (now (doc .entry))) (length (now (rows .entry)) / 7) (now (w .entry)) .answers) ⌝ }
     ensures { λ r. ⌜ r .last ≡ lastOf (stepping layer (now (doc .entry))) (length (now (rows .entry)) / 7) (now (w .entry)) ⌝ }
     ensures { λ r. ⌜ now (w .exit) ≡ taken (stepping layer (now (doc .entry))) (length (now (rows .entry)) / 7) (now (w .entry)) .state ⌝ }
@@ -52,8 +52,8 @@ fn put_front(w: &[usize], n: usize, state: &mut [usize])
 }
 
 // The same with an array, whose length its type tells.
-pub(crate) fn put_back(w: &[usize; 213], n: usize, state: &mut [usize])
-    requires { ⌜ n ≤ 213 ⌝ }
+pub(crate) fn put_back(w: &[usize; 278], n: usize, state: &mut [usize])
+    requires { ⌜ n ≤ 278 ⌝ }
     ensures { λ _. ⌜ now (state .exit) ≡ pastedIn (take n (now (w .entry))) 0 (now (state .entry)) ⌝ }
 {
     put_front(w, n, state);
@@ -61,7 +61,7 @@ pub(crate) fn put_back(w: &[usize; 213], n: usize, state: &mut [usize])
 
 // The parser's next answer, in its row, and the words after it: 12, then 15 where what this step uses is unfit, then the step. Of
 // the words of a fit state it is the parser's step.
-pub fn next(doc: &[u8], words: &mut [usize; 213], row: &mut [usize; 7])
+pub fn next(doc: &[u8], words: &mut [usize; 278], row: &mut [usize; 7])
     ensures { λ _. ⌜ now (words .exit) ≡ nextOf (now (doc .entry)) (now (words .entry)) .words ⌝ }
     ensures { λ _. ⌜ now (row .exit) ≡ rowBy (nextOf (now (doc .entry)) (now (words .entry)) .said) ⌝ }
 {

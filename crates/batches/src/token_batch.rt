@@ -13,7 +13,7 @@ ghost use Rattle.tokenizer_words.specs.Words.{readable, stateIn, storedIn};
 ghost use Rattle.batches.specs.Batch.{batchOf};
 
 // restore with an array, whose length its type tells.
-fn put_tokenizer(n: usize, state: &[usize], words: &mut [usize; 213]) -> bool
+fn put_tokenizer(n: usize, state: &[usize], words: &mut [usize; 278]) -> bool
     ensures { λ r. ⌜ r ≡ (readable (now (state .entry)) && fit n (stateIn (now (state .entry)))) ⌝ }
     ensures { λ r. ⌜ now (words .exit) ≡ cond r (storedIn (stateIn (now (state .entry))) (now (words .entry))) (now (words .entry)) ⌝ }
 {
@@ -29,7 +29,7 @@ pub fn tokenize(doc: &[u8], state: &mut [usize], rows: &mut [usize]) -> usize
     if State::MAX_DOCUMENT < doc.len() {
         return TOO_LONG;
     }
-    let mut words = [0usize; 213];
+    let mut words = [0usize; 278];
     if !put_tokenizer(doc.len(), state, &mut words) {
         return UNFIT;
     }

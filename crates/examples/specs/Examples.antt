@@ -25,13 +25,13 @@ pub record Examples : Type 0 where
   pub no-answers : parse [] ≡ []
   -- the listing's document, `a` LF `  = "x"` LF
   pub listing-answers : parse (ascii "a\n  = \"x\"\n")
-      ≡ answer.Token (token.MapKey 1 (part 0 1))
-      ∷ answer.Token (token.Newline 1)
-      ∷ answer.Token (token.Indent 2)
-      ∷ answer.Token (token.ListItem 2)
-      ∷ answer.Token (token.Value 2 (part 6 9))
-      ∷ answer.Token (token.Newline 2)
-      ∷ answer.Token (token.Outdent 3)
+      ≡ answer.Token (token.MapKey 1 (part 0 1)) 0
+      ∷ answer.Token (token.Newline 1) 0
+      ∷ answer.Token (token.Indent 2) 0
+      ∷ answer.Token (token.ListItem 2) 0
+      ∷ answer.Token (token.Value 2 (part 6 9)) 0
+      ∷ answer.Token (token.Newline 2) 0
+      ∷ answer.Token (token.Outdent 3) 1
       ∷ []
   -- and the listing itself, a line of it on each line here
   pub listing-bytes : listingOf (ascii "a\n  = \"x\"\n")
@@ -55,7 +55,7 @@ pub record Examples : Type 0 where
       ∷ came.Token (token.Comment 2 (part 9 10))
       ∷ []
   pub hint-answers : parse (ascii "a = \"\"\"\n;x")
-      ≡ answer.Token (token.MapKey 1 (part 0 1)) ∷ answer.Token (token.MultilineHint 1 (part 7 7)) ∷ answer.Token (token.Newline 1) ∷ answer.Refused 4 1 ∷ []
+      ≡ answer.Token (token.MapKey 1 (part 0 1)) 0 ∷ answer.Token (token.MultilineHint 1 (part 7 7)) 0 ∷ answer.Token (token.Newline 1) 0 ∷ answer.Refused 4 1 ∷ []
   -- one space then `a`: Indent, key, Outdent; parser: 7, line 1
   pub space-tokens : tokens (ascii " a")
       ≡ came.Token (token.Indent 1) ∷ came.Token (token.MapKey 1 (part 1 2)) ∷ came.Token (token.Outdent 1) ∷ []

@@ -5,7 +5,7 @@ use mathlib.Core.List.{List, [], _∷_, _++_}
 use mathlib.Core.Bool.{true}
 use native.Mathlib.Omega.{arith}
 use lib.ListN.{length}
-use Rattle.text.specs.Bytes.{part, shiftedBy}
+use Rattle.text.specs.Bytes.{part}
 use Rattle.text.specs.Ascii.{ascii}
 use Rattle.tokenizer_scans.specs.Scans.{breaks}
 use Rattle.tokenizer.specs.Lists.{tokens}
@@ -72,8 +72,8 @@ cr-lf = (refl, (refl, refl, λ e. let z : _≡_ {A = ℕ} 0 1 = cc in omega arit
 
 -- For the parser S's list has to begin with a key or an item: `a` LF then the byte FF. P's own list ends with a NoValue, and
 -- that of P then S has the refusal in its place.
-pub no-entry : (parse (ascii "a\n") ≡ said (MapKey 1 (part 0 1)) ∷ said (Newline 1) ∷ said (NoValue 1) ∷ [])
-    × (parse (ascii "a\n" ++ 0xFF ∷ []) ≡ said (MapKey 1 (part 0 1)) ∷ said (Newline 1) ∷ refuses 1 2 ∷ [])
+pub no-entry : (parse (ascii "a\n") ≡ said (MapKey 1 (part 0 1)) 0 ∷ said (Newline 1) 0 ∷ said (NoValue 1) 0 ∷ [])
+    × (parse (ascii "a\n" ++ 0xFF ∷ []) ≡ said (MapKey 1 (part 0 1)) 0 ∷ said (Newline 1) 0 ∷ refuses 1 2 ∷ [])
     × ((l : List Said) → parse (ascii "a\n" ++ 0xFF ∷ []) ≡ parse (ascii "a\n") ++ l → ⊥)
 unfolding parseRules
 no-entry = (refl, refl, λ l e. let z : _≡_ {A = ℕ} 0 1 = cc in omega arith)

@@ -2,12 +2,10 @@
 -- parser over the two lists that clause 1 joins.
 use Prim.Native.Nat.{ℕ, _+_, _≤_}
 use mathlib.Core.Path.{_≡_, refl, sym, ap, _∙_}
-use mathlib.Core.List.{List, [], _∷_, _++_, map, append-assoc}
-use mathlib.Core.Bool.{Bool, true, false, cond, not, _||_, or-true}
+use mathlib.Core.List.{List, [], _∷_, _++_, map, append-assoc, append-nil}
+use mathlib.Core.Bool.{Bool, true, false, cond, not}
 use native.Mathlib.Omega.{arith}
-use lib.Dec.{eqb}
 use lib.ListN.{length, length-append}
-use borrow.Author.Tests.{ne-eqb}
 use Rattle.text.proofs.Cases.{by-bool, clash}
 use Rattle.tokenizer.specs.Token.{lineOf}
 use Rattle.tokenizer_scans.specs.Scans.{breaks}
@@ -28,51 +26,39 @@ use Rattle.tokenizer.specs.declared.token.Token.the-variants.{
 use Rattle.tokenizer.specs.declared.state.Answer.{Answer as Came}
 use Rattle.tokenizer.specs.declared.state.Answer.the-variants as came
 use Rattle.tokenizer_claims.proofs.Claimed.{fit as reading-fit}
-use Rattle.parser_rules.specs.Ruling.{clashes, rulingOf, onEnd}
-use Rattle.parser.specs.Lists.{Stand, feed, parsed, freshStand, parse, refusedIn, topEntries, entrySort, topSort}
+use Rattle.parser_rules.specs.Ruling.{rulingOf, onEnd}
+use Rattle.parser.specs.Step.{noSort}
+use Rattle.parser.specs.Lists.{Stand, innermost, feed, parsed, freshStand, parse, refusedIn, entrySort, topSort}
 use Rattle.parser_rules.specs.declared.ruling.Answer.{Answer}
 use Rattle.parser_rules.specs.declared.ruling.Answer.the-variants as answer
 use Rattle.parser_rules.specs.declared.ruling.Sort.{Sort}
 use Rattle.parser_rules.specs.declared.ruling.Sort.the-variants.{Unset}
-use Rattle.parser_rules.specs.declared.ruling.Change.the-variants.{Keep}
 use Rattle.parser_rules.specs.declared.ruling.Awaited.{Awaited}
 use Rattle.parser_rules.specs.declared.ruling.Awaited.the-variants as awaited
 use Rattle.parser_claims.specs.Claims.{Fits, All}
+use Rattle.parser_claims.specs.Opened.{Carries}
 use Rattle.parser_claims.proofs.Claimed.{parse-within}
 use Rattle.parser_claims.proofs.Claimed.{fit as parsing-fit}
+use Rattle.parser_claims.proofs.Given.{Entry, item, key}
+use Rattle.parser_claims.proofs.Opened.{carried}
 use Rattle.joining_claims.specs.Raising.{raiseToken, raise, raised}
 use Rattle.joining_claims.specs.Tokens.{Closed, topLevel}
 use Rattle.joining_claims.specs.Joined.{raiseAnswer, below, Begins, begins, Demand3}
 use Rattle.joining_claims.proofs.Joined.{tokens-joined}
 use Rattle.joining_claims.proofs.Unescaping.{token-above, token-below, each-token}
 use Rattle.joining_claims.proofs.Feeding.{fed, parsed-append, parsed-end, refused-append, fed-stops}
-use Rattle.joining_claims.proofs.RaisedParse.{unfitIn, parsed-raised}
-use Rattle.joining_claims.proofs.Tops.{Runs, done, more, passes, runs-append, top-sort}
-use Rattle.joining_claims.proofs.Behind.{atTop, hinted, IsEntry, item, key, behind, entry-after}
+use Rattle.joining_claims.proofs.RaisedParse.{top, Rises, parsed-raised}
+use Rattle.joining_claims.proofs.Tops.{level, misses, Runs, done, more, runs-append, top-sort}
+use Rattle.joining_claims.proofs.Behind.{atTop, hinted, behind, entry-after}
 use Rattle.joining_claims.proofs.AtTop.{at-top}
 
--- A raised entry is an entry of the same sort
-
-entry-raised : (l n : ℕ) {t : Token} → IsEntry t → IsEntry (raiseToken l n t)
+-- a raised entry is one of the same sort, l lines further on
+entry-raised : (l n : ℕ) {t : Token} {m : ℕ} {s : Sort} → Entry t m s → Entry (raiseToken l n t) (l + m) s
 unfolding raiseToken
-entry-raised l n (item m) = item (l + m)
-entry-raised l n (key m p) = key (l + m) _
-
-sort-raised : (l n : ℕ) {t : Token} → IsEntry t → entrySort (raiseToken l n t) ≡ entrySort t
-unfolding raiseToken
-sort-raised l n (item m) = refl
-sort-raised l n (key m p) = refl
-
-line-raised : (l n : ℕ) {t : Token} → IsEntry t → lineOf (raiseToken l n t) ≡ l + lineOf t
-unfolding raiseToken lineOf
-line-raised l n (item m) = refl
-line-raised l n (key m p) = refl
+entry-raised l n item = item
+entry-raised l n key = key
 
 -- The end of P, as its own list has it
-
-pub append-nil : (l : List Answer) → l ++ [] ≡ l
-append-nil [] = refl
-append-nil (a ∷ l) = ap (λ (m : List Answer). a ∷ m) (append-nil l)
 
 -- a hint is refused there, and nothing else is
 pub end-refused : (a : Awaited) (s : Sort) → refusedIn (feed (atTop a s) came.End .says) ≡ hinted a
@@ -82,14 +68,14 @@ end-refused (awaited.Value m) s = refl
 end-refused (awaited.Multiline m) s = refl
 
 -- the sections stay
-pub end-runs : (a : Awaited) (s : Sort) → hinted a ≡ false → Runs (s ∷ []) (feed (atTop a s) came.End .says) (s ∷ [])
-unfolding feed rulingOf onEnd topEntries
+pub end-runs : (a : Awaited) (s : Sort) → hinted a ≡ false → Runs (level s ∷ []) (feed (atTop a s) came.End .says) (level s ∷ [])
+unfolding feed rulingOf onEnd
 end-runs awaited.Nothing s e = done
-end-runs (awaited.Value m) s e = more {sorts = s ∷ []} {c = Keep} (passes (λ i o l. refl)) (omega arith) done
+end-runs (awaited.Value m) s e = more {sections = level s ∷ []} misses (omega arith) done
 end-runs (awaited.Multiline m) s e = absurd (clash e)
 
 -- Clause 3 where P went on: its answers w, what it awaits, and the sort of its top level
-module _ (w : List Answer) (a : Awaited) (s : Sort) (f : refusedIn w ≡ false) (r : Runs (Unset ∷ []) w (s ∷ [])) where
+module _ (w : List Answer) (a : Awaited) (s : Sort) (f : refusedIn w ≡ false) (r : Runs (noSort ∷ []) w (level s ∷ [])) where
   ended : List Answer
   ended = w ++ feed (atTop a s) came.End .says
 
@@ -99,15 +85,16 @@ module _ (w : List Answer) (a : Awaited) (s : Sort) (f : refusedIn w ≡ false) 
 
   ended-sort : hinted a ≡ false → topSort ended ≡ s
   unfolding ended
-  ended-sort e = sym (top-sort (runs-append r (end-runs a s e)))
+  ended-sort e = let q = ap innermost (top-sort (runs-append r (end-runs a s e)) refl) in cc
 
-  module _ (l n : ℕ) (t : Token) (e : IsEntry t) (cs : List Came) (u : unfitIn (parsed freshStand (came.Token t ∷ cs)) ≡ false) where
+  module _ (l n : ℕ) (t : Token) (e : Entry t (lineOf t) (entrySort t)) (cs : List Came)
+      (u : All Rises (parsed freshStand (came.Token t ∷ cs))) where
     entry-joined : hinted a ≡ false → parsed (atTop awaited.Nothing s) (raised l n (came.Token t ∷ cs))
         ≡ below ended t l (map (raiseAnswer l n) (parsed freshStand (came.Token t ∷ cs)))
     unfolding raise
     entry-joined h =
         entry-after s (raised l n cs) (entry-raised l n e)
-        ∙ rw (ended-refused, h, ended-sort h, sort-raised l n e, line-raised l n e, parsed-raised l n freshStand (came.Token t ∷ cs) u)
+        ∙ rw (ended-refused, h, ended-sort h, parsed-raised l n awaited.Nothing top (came.Token t ∷ cs) u)
 
     list-joined : w ++ parsed (atTop a s) (raised l n (came.Token t ∷ cs))
         ≡ ended ++ below ended t l (map (raiseAnswer l n) (parsed freshStand (came.Token t ∷ cs)))
@@ -117,17 +104,17 @@ module _ (w : List Answer) (a : Awaited) (s : Sort) (f : refusedIn w ≡ false) 
         ∙ sym (append-assoc w (feed (atTop a s) came.End .says) _)
         ∙ ap (λ (m : List Answer). ended ++ m) (by-bool (hinted a) (λ h. rw (ended-refused, h)) (λ h. rw h (entry-joined h)))
 
--- 15 is not among the answers of a parsing
-fits-unfit : (d : List ℕ) (l : List Answer) → All (Fits d) l → unfitIn l ≡ false
-unfolding unfitIn
-fits-unfit d [] a = refl
-fits-unfit d (answer.End ∷ l) a = absurd (a .0)
-fits-unfit d (answer.Token t ∷ l) a = fits-unfit d l (a .1)
-fits-unfit d (answer.Refused n m ∷ l) a = rw (ne-eqb n 15 (λ e. omega (arith, a .0))) (fits-unfit d l (a .1))
+-- every answer of a parsing rises
+rises : (d : List ℕ) (l : List Answer) → All (Fits d) l → All Carries l → All Rises l
+rises d [] f c = tt
+rises d (answer.End ∷ l) f c = absurd (f .0)
+rises d (answer.Token t o ∷ l) f c = (c .0, rises d l (f .1) (c .1))
+rises d (answer.Refused n m ∷ l) f c = (λ e. omega (arith, f .0), rises d l (f .1) (c .1))
 
-is-entry : (t : Token) → (entrySort t ≡ Unset → ⊥) → IsEntry t
-is-entry (ListItem m) n = item m
-is-entry (MapKey m q) n = key m q
+is-entry : (t : Token) → (entrySort t ≡ Unset → ⊥) → Entry t (lineOf t) (entrySort t)
+unfolding lineOf
+is-entry (ListItem m) n = item
+is-entry (MapKey m q) n = key
 is-entry (Newline m) n = absurd (n refl)
 is-entry (Comment m q) n = absurd (n refl)
 is-entry (Indent m) n = absurd (n refl)
@@ -168,7 +155,8 @@ module _ (p s : List ℕ) (c : Closed p) (b : topLevel s ≡ true) (h : length (
       rw r (b ∙ sym a ∙ sym (append-nil (parse p)))
 
   -- P went on to its end
-  going-joined : (t : Token) (cs : List Came) → tokens s ≡ came.Token t ∷ cs → IsEntry t → fed freshStand (tokens p) .goesOn ≡ true
+  going-joined : (t : Token) (cs : List Came) → tokens s ≡ came.Token t ∷ cs → Entry t (lineOf t) (entrySort t)
+      → fed freshStand (tokens p) .goesOn ≡ true
       → parse (p ++ s) ≡ parse p ++ below (parse p) t (breaks p) (map (raiseAnswer (breaks p) (length p)) (parse s))
   unfolding ended
   going-joined t cs q e g =
@@ -176,7 +164,7 @@ module _ (p s : List ℕ) (c : Closed p) (b : topLevel s ≡ true) (h : length (
       let w = f .says in
       let x = f .next .awaited in
       let o = at-top p p-le g in
-      let n : f .next ≡ atTop x (o .sort) = λ i. record { awaited = x; sorts = o .sorts i } in
+      let n : f .next ≡ atTop x (o .sort) = λ i. record { awaited = x; sections = o .sections i } in
       let a : parse p ≡ w ++ feed (atTop x (o .sort)) came.End .says =
       parse-above ∙ ap (λ (on : Bool). w ++ cond on (feed (f .next) came.End .says) []) g ∙ ap (λ (y : Stand). w ++ feed y came.End .says) n in
       let b : parse (p ++ s) ≡ w ++ parsed (atTop x (o .sort)) (raised (breaks p) (length p) (came.Token t ∷ cs)) =
@@ -187,7 +175,7 @@ module _ (p s : List ℕ) (c : Closed p) (b : topLevel s ≡ true) (h : length (
       rw (a, d)
       (b
       ∙ list-joined w x (o .sort) (fed-stops freshStand (tokens p) ∙ ap not g) (o .runs) (breaks p) (length p) t e cs
-      (sym (ap unfitIn d) ∙ fits-unfit s (parse s) (parsing-fit s s-le)))
+      (rw d at (rises s (parse s) (parsing-fit s s-le) (carried s))))
 
   parse-joined : (l : List Came) → tokens s ≡ l → (t : Token) → Begins l t
       → parse (p ++ s) ≡ parse p ++ below (parse p) t (breaks p) (map (raiseAnswer (breaks p) (length p)) (parse s))

@@ -1,6 +1,5 @@
 -- The parser over a list in two parts: what the first part makes it say, then the second part from where it then stands, unless
 -- it has stopped. It stops exactly where it has refused.
-use Prim.Native.Nat.{ℕ}
 use mathlib.Core.Path.{_≡_, refl, sym, ap, _∙_}
 use mathlib.Core.List.{List, [], _∷_, _++_, append-assoc}
 use mathlib.Core.Bool.{true, false, cond, not, _||_}
@@ -15,7 +14,6 @@ use Rattle.parser_rules.specs.declared.ruling.Kept.the-variants as kept
 use Rattle.parser_rules.specs.declared.ruling.Verdict.{Verdict}
 use Rattle.parser_rules.specs.declared.ruling.Ruling.{Ruling}
 use Rattle.parser_rules.specs.declared.ruling.Ruling.the-variants.{Says, End, Unfit}
-use Rattle.joining_claims.proofs.Tops.{Turn}
 use Rattle.joining_claims.proofs.Ruled.{Keeps, Turns, ruling-turns}
 
 -- what a list makes the parser say, where it then stands, and whether it goes on
@@ -48,23 +46,17 @@ parsed-end s (c ∷ l) =
 refused-cons : (a : Answer) (l : List Answer) → refusedIn (a ∷ []) ≡ false → refusedIn (a ∷ l) ≡ refusedIn l
 unfolding refusedIn
 refused-cons answer.End l e = refl
-refused-cons (answer.Token t) l e = refl
+refused-cons (answer.Token t o) l e = refl
 refused-cons (answer.Refused n m) l e = absurd (clash e)
-
-refused-more : (a : Answer) (l : List Answer) → refusedIn (a ∷ []) ≡ true → refusedIn (a ∷ l) ≡ true
-unfolding refusedIn
-refused-more answer.End l e = absurd (clash (sym e))
-refused-more (answer.Token t) l e = absurd (clash (sym e))
-refused-more (answer.Refused n m) l e = refl
 
 pub refused-append : (l m : List Answer) → refusedIn (l ++ m) ≡ refusedIn l || refusedIn m
 unfolding refusedIn
 refused-append [] m = refl
 refused-append (answer.End ∷ l) m = refused-append l m
-refused-append (answer.Token t ∷ l) m = refused-append l m
+refused-append (answer.Token t o ∷ l) m = refused-append l m
 refused-append (answer.Refused n k ∷ l) m = refl
 
-once-stops : (s : Stand) (r : Ruling) → Turns (s .sorts) r → refusedIn (fedOnce s r .says) ≡ not (fedOnce s r .goesOn)
+once-stops : (s : Stand) (r : Ruling) → Turns (s .sections) r → refusedIn (fedOnce s r .says) ≡ not (fedOnce s r .goesOn)
 unfolding refusedIn
 once-stops s (Says v) t = rw (t .0) (by-bool (v .refused) (λ e. rw e) (λ e. rw e))
 once-stops s End t = refl
@@ -73,21 +65,22 @@ once-stops s Unfit t = refl
 again-stops : (s : Stand) (v : Verdict) (c : Came) → refusedIn (v .answer ∷ []) ≡ v .refused → v .refused ≡ false
     → refusedIn (v .answer ∷ fedOnce (standAfter s v) (ruled (standAfter s v) c) .says) ≡ not (fedOnce (standAfter s v) (ruled (standAfter s v) c) .goesOn)
 again-stops s v c e f =
-    refused-cons (v .answer) _ (e ∙ f) ∙ once-stops (standAfter s v) (ruled (standAfter s v) c) (ruling-turns (standAfter s v .sorts) (v .awaited) false c)
+    refused-cons (v .answer) _ (e ∙ f)
+    ∙ once-stops (standAfter s v) (ruled (standAfter s v) c) (ruling-turns (standAfter s v .sections) (v .awaited) c)
 
-twice-stops : (s : Stand) (k : Kept) (v : Verdict) → refusedIn (v .answer ∷ []) ≡ v .refused → (v .refused ≡ false → Turn (s .sorts) (v .answer) (v .change)) → Keeps k v
+twice-stops : (s : Stand) (k : Kept) (v : Verdict) → refusedIn (v .answer ∷ []) ≡ v .refused → Keeps k v
     → refusedIn (fedTwice s k v .says) ≡ not (fedTwice s k v .goesOn)
-twice-stops s kept.Nothing v e f g = rw e (by-bool (v .refused) (λ e. rw e) (λ e. rw e))
-twice-stops s kept.End v e f g = again-stops s v came.End e (g .0)
-twice-stops s (kept.Token t) v e f g = again-stops s v (came.Token t) e (g .0)
+twice-stops s kept.Nothing v e g = rw e (by-bool (v .refused) (λ e. rw e) (λ e. rw e))
+twice-stops s kept.End v e g = again-stops s v came.End e (g .0)
+twice-stops s (kept.Token t) v e g = again-stops s v (came.Token t) e (g .0)
 
 -- one answer of the tokenizer: it stops exactly where it has refused
 feed-stops : (s : Stand) (c : Came) → refusedIn (feed s c .says) ≡ not (feed s c .goesOn)
 unfolding feed
-feed-stops s c = by-ruling (ruled s c) (ruling-turns (s .sorts) (s .awaited) false c)
+feed-stops s c = by-ruling (ruled s c) (ruling-turns (s .sections) (s .awaited) c)
   where
-    by-ruling : (r : Ruling) → Turns (s .sorts) r → refusedIn (fedBy s r .says) ≡ not (fedBy s r .goesOn)
-    by-ruling (Says v) t = twice-stops s (v .kept) v (t .0) (t .1) (t .2)
+    by-ruling : (r : Ruling) → Turns (s .sections) r → refusedIn (fedBy s r .says) ≡ not (fedBy s r .goesOn)
+    by-ruling (Says v) t = twice-stops s (v .kept) v (t .0) (t .2)
     by-ruling End t = once-stops s End t
     by-ruling Unfit t = once-stops s Unfit t
 

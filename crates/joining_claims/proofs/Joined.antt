@@ -8,7 +8,6 @@ use native.Mathlib.Nat.{add-zero}
 use native.Mathlib.Omega.{arith}
 use lib.ListN.{length, length-drop, length-append}
 use lib.Seq.{drop-append-seam}
-use Rattle.text.specs.Bytes.{shiftedBy}
 use Rattle.text.specs.declared.bytes.Part.{Part}
 use Rattle.tokenizer_scans.specs.Scans.{breaksAfter, breaks}
 use Rattle.tokenizer_rules.specs.Plan.{planOutdent}

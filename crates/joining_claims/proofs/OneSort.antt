@@ -1,10 +1,9 @@
 -- All top-level entries of an accepted document are of one sort: the parser went on to its end, and its answers run over the
 -- sections from the top level to the top level.
 use Prim.Native.Nat.{ℕ, _≤_}
-use mathlib.Core.Path.{_≡_, refl, sym, ap, subst, _∙_}
-use mathlib.Core.List.{List, [], _∷_, _++_}
-use mathlib.Core.Bool.{Bool, true, false, cond, not, _||_}
-use native.Mathlib.Omega.{arith}
+use mathlib.Core.Path.{_≡_, sym, ap, subst, _∙_}
+use mathlib.Core.List.{List, [], _++_, append-nil}
+use mathlib.Core.Bool.{Bool, true, false, cond, not}
 use lib.Dec.{ltb}
 use lib.ListN.{length}
 use borrow.Author.Tests.{ltb-false}
@@ -19,7 +18,7 @@ use Rattle.joining_claims.proofs.Feeding.{fed, parsed-end, refused-appe
 use Rattle.joining_claims.proofs.Tops.{runs-append, top-sorts}
 use Rattle.joining_claims.proofs.Behind.{atTop, hinted}
 use Rattle.joining_claims.proofs.AtTop.{at-top}
-use Rattle.joining_claims.proofs.Demand.{append-nil, end-refused, end-runs}
+use Rattle.joining_claims.proofs.Demand.{end-refused, end-runs}
 
 module _ (d : List ℕ) (h : length d ≤ 16777216) (f : refusedIn (parse d) ≡ false) where
   ended : parse d ≡ fed freshStand (tokens d) .says ++ cond (fed freshStand (tokens d) .goesOn) (feed (fed freshStand (tokens d) .next) came.End .says) []
@@ -37,7 +36,7 @@ module _ (d : List ℕ) (h : length d ≤ 16777216) (f : refusedIn (parse d) ≡
       let x = fed freshStand (tokens d) in
       let o = at-top d h g in
       let w = x .next .awaited in
-      let n : x .next ≡ atTop w (o .sort) = λ i. record { awaited = w; sorts = o .sorts i } in
+      let n : x .next ≡ atTop w (o .sort) = λ i. record { awaited = w; sections = o .sections i } in
       let a : parse d ≡ x .says ++ feed (atTop w (o .sort)) came.End .says =
       ended ∙ ap (λ (on : Bool). x .says ++ cond on (feed (x .next) came.End .says) []) g ∙ ap (λ (y : Stand). x .says ++ feed y came.End .says) n in
       let u : refusedIn (x .says) ≡ false = fed-stops freshStand (tokens d) ∙ ap not g in

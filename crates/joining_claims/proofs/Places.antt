@@ -1,9 +1,9 @@
 -- A part of P is the same part of P then S, and a part of S is, raised by P's length, a part of P then S.
 use Prim.Native.Nat.{ℕ, _+_, _-_, _≤_}
-use mathlib.Core.Path.{_≡_, refl, _∙_, ap}
+use mathlib.Core.Path.{_≡_}
 use mathlib.Core.List.{List, _++_}
 use native.Mathlib.Omega.{arith}
-use lib.ListN.{length, take, drop, length-append, length-drop}
+use lib.ListN.{length, drop, length-drop}
 use lib.Seq.{take-append-le, drop-append-le, drop-append-add}
 use Rattle.text.specs.Bytes.{shiftedBy}
 use Rattle.text.specs.declared.bytes.Part.{Part}

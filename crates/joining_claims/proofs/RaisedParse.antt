@@ -1,10 +1,11 @@
--- The parser over a raised list says what it says of the list, raised: a ruling looks at no line and no place. Only 15, whose line
--- is 0, would not be raised, so the list is one in which nothing is unfit.
+-- The parser over a raised list says what it says of the list, raised: a ruling looks at no line and no place. Of the sections only
+-- the top level's keeps its line, 0. Two answers would not be raised: 15, whose line is 0, and an Outdent that closes the top level
+-- and so carries 0. So the list is one that has neither.
 use Prim.Native.Nat.{ℕ, _+_}
-use mathlib.Core.Path.{_≡_, refl, sym, ap, _∙_}
+use mathlib.Core.Path.{_≡_, refl, sym, ap}
 use mathlib.Core.List.{List, [], _∷_, _++_, map, map-append}
-use mathlib.Core.Bool.{Bool, true, false, cond, _||_}
-use lib.Dec.{eqb}
+use mathlib.Core.Bool.{Bool, true, false, cond}
+use native.Mathlib.Omega.{arith}
 use Rattle.text.proofs.Cases.{by-bool, clash}
 use Rattle.tokenizer.specs.declared.token.Token.{Token}
 use Rattle.tokenizer.specs.declared.token.Token.the-variants.{
@@ -22,7 +23,7 @@ use Rattle.tokenizer.specs.declared.token.Token.the-variants.{
 use Rattle.tokenizer.specs.declared.state.Answer.{Answer as Came}
 use Rattle.tokenizer.specs.declared.state.Answer.the-variants as came
 use Rattle.parser_rules.specs.Ruling.{clashes, onEntry, onOutdent, onIndent, settled, afterEntry, afterHint, onToken, onEnd, rulingOf}
-use Rattle.parser.specs.Lists.{Stand, innermost, sortsAfter, Fed, standAfter, fedOnce, before, ruled, fedTwice, fedBy, feed, parsed}
+use Rattle.parser.specs.Lists.{Stand, innermost, stackAfter, Fed, fedOnce, before, ruled, fedTwice, fedBy, feed, parsed}
 use Rattle.parser_rules.specs.declared.ruling.Answer.{Answer}
 use Rattle.parser_rules.specs.declared.ruling.Answer.the-variants as answer
 use Rattle.parser_rules.specs.declared.ruling.Sort.{Sort}
@@ -30,18 +31,31 @@ use Rattle.parser_rules.specs.declared.ruling.Awaited.{Awaited}
 use Rattle.parser_rules.specs.declared.ruling.Awaited.the-variants as awaited
 use Rattle.parser_rules.specs.declared.ruling.Kept.{Kept}
 use Rattle.parser_rules.specs.declared.ruling.Kept.the-variants as kept
-use Rattle.parser_rules.specs.declared.ruling.Innermost.{Innermost}
-use Rattle.parser_rules.specs.declared.ruling.Innermost.the-variants.{Missing, Of}
+use Rattle.parser_rules.specs.declared.ruling.Change.{Change}
+use Rattle.parser_rules.specs.declared.ruling.Change.the-variants.{Keep, Fix, Open, Close}
 use Rattle.parser_rules.specs.declared.ruling.Verdict.{Verdict}
 use Rattle.parser_rules.specs.declared.ruling.Ruling.{Ruling}
 use Rattle.parser_rules.specs.declared.ruling.Ruling.the-variants.{Says, End, Unfit}
-use Rattle.joining_claims.specs.Raising.{raiseToken, raise, raised}
+use Rattle.parser.specs.declared.state.Section.{Section}
+use Rattle.parser_claims.specs.Claims.{All}
+use Rattle.parser_claims.specs.Opened.{Carries}
+use Rattle.parser_claims.proofs.Rulings.{stand}
+use Rattle.parser_claims.proofs.Given.{Entry, item, key, passes, enters, opens, closes}
+use Rattle.joining_claims.specs.Raising.{raiseToken, raiseOpened, raise, raised}
 use Rattle.joining_claims.specs.Joined.{raiseAnswer}
+use Rattle.joining_claims.proofs.Tops.{level, Turn, misses, moves}
+use Rattle.joining_claims.proofs.Ruled.{Keeps, Turns, ruling-turns}
 
 abbrev raiseAwaited : ℕ → Awaited → Awaited
 raiseAwaited l awaited.Nothing = awaited.Nothing
 raiseAwaited l (awaited.Value m) = awaited.Value (l + m)
 raiseAwaited l (awaited.Multiline m) = awaited.Multiline (l + m)
+
+abbrev raiseChange : ℕ → Change → Change
+raiseChange l Keep = Keep
+raiseChange l (Fix s) = Fix s
+raiseChange l (Open o) = Open (l + o)
+raiseChange l Close = Close
 
 abbrev raiseKept : ℕ → ℕ → Kept → Kept
 raiseKept l n kept.Nothing = kept.Nothing
@@ -52,7 +66,7 @@ abbrev raiseVerdict : ℕ → ℕ → Verdict → Verdict
 raiseVerdict l n v = record {
   answer = raiseAnswer l n (v .answer);
   awaited = raiseAwaited l (v .awaited);
-  change = v .change;
+  change = raiseChange l (v .change);
   kept = raiseKept l n (v .kept);
   refused = v .refused;
 }
@@ -62,55 +76,72 @@ raiseRuling l n (Says v) = Says (raiseVerdict l n v)
 raiseRuling l n End = End
 raiseRuling l n Unfit = Unfit
 
-abbrev pub raiseStand : ℕ → Stand → Stand
-raiseStand l s = record { awaited = raiseAwaited l (s .awaited); sorts = s .sorts }
+-- the sections above the top level, raised
+pub data Raised (l : ℕ) : List Section → List Section → Type 0 where
+  top : {s : Sort} → Raised l (level s ∷ []) (level s ∷ [])
+  above : {s : Section} {a b : List Section} → Raised l a b
+      → Raised l (s ∷ a) (record { sort = s .sort; line = l + s .line } ∷ b)
 
-abbrev pub raiseFed : ℕ → ℕ → Fed → Fed
-raiseFed l n f = record { says = map (raiseAnswer l n) (f .says); next = raiseStand l (f .next); goesOn = f .goesOn }
+-- what is awaited, raised, above these sections
+abbrev high : ℕ → Awaited → List Section → Stand
+high l w b = stand (raiseAwaited l w) b
+
+-- an answer to whose lines raising adds
+abbrev pub Rises : Answer → Type 0
+Rises answer.End = Unit {0}
+Rises (answer.Token t o) = Carries (answer.Token t o)
+Rises (answer.Refused r m) = r ≡ 15 → ⊥
+
+abbrev RulingRises : Ruling → Type 0
+RulingRises (Says v) = Rises (v .answer)
+RulingRises End = Unit {0}
+RulingRises Unfit = ⊥
 
 -- One ruling
 
 module _ (l n : ℕ) where
-  entry-raised : (t : Token) (m : ℕ) (s : Sort) (r : ℕ) (i : Innermost) → onEntry (raiseToken l n t) (l + m) s r i ≡ raiseRuling l n (onEntry t m s r i)
+  entry-opened : {t : Token} {m : ℕ} {s : Sort} → Entry t m s → raiseOpened l t 0 ≡ 0
+  entry-opened item = refl
+  entry-opened key = refl
+
+  entry-raised : {a b : List Section} {t : Token} {m : ℕ} {s : Sort} → Raised l a b → Entry t m s → (r : ℕ)
+      → onEntry (raiseToken l n t) (l + m) s r (innermost b) ≡ raiseRuling l n (onEntry t m s r (innermost a))
   unfolding onEntry raiseAnswer
-  entry-raised t m s r Missing = refl
-  entry-raised t m s r (Of j) = by-bool (clashes j s) (λ e. rw e) (λ e. rw e)
+  entry-raised {s = s} (top {s = j}) e r = by-bool (clashes j s) (λ c. rw c) (λ c. rw (c, entry-opened e))
+  entry-raised {s = s} (above {s = j} x) e r = by-bool (clashes (j .sort) s) (λ c. rw c) (λ c. rw (c, entry-opened e))
 
-  outdent-raised : (t : Token) (i : Innermost) → onOutdent (raiseToken l n t) i ≡ raiseRuling l n (onOutdent t i)
-  unfolding onOutdent raiseAnswer
-  outdent-raised t Missing = refl
-  outdent-raised t (Of j) = refl
+  outdent-raised : {a b : List Section} → Raised l a b → (m : ℕ) → RulingRises (onOutdent (Outdent m) (innermost a))
+      → onOutdent (Outdent (l + m)) (innermost b) ≡ raiseRuling l n (onOutdent (Outdent m) (innermost a))
+  unfolding onOutdent raiseToken raiseAnswer
+  outdent-raised top m e = absurd (omega arith)
+  outdent-raised (above x) m e = refl
 
-  indent-raised : (t : Token) (full : Bool) → onIndent (raiseToken l n t) full ≡ raiseRuling l n (onIndent t full)
-  unfolding onIndent raiseAnswer
-  indent-raised t true = refl
-  indent-raised t false = refl
-
-  settled-raised : (i : Innermost) (t : Token) → settled i (raiseToken l n t) ≡ raiseRuling l n (settled i t)
+  settled-raised : {a b : List Section} → Raised l a b → (t : Token) → RulingRises (settled (innermost a) t)
+      → settled (innermost b) (raiseToken l n t) ≡ raiseRuling l n (settled (innermost a) t)
   unfolding settled raiseToken raiseAnswer
-  settled-raised i (Newline m) = refl
-  settled-raised i (Comment m p) = refl
-  settled-raised i (Indent m) = refl
-  settled-raised i (Outdent m) = outdent-raised (Outdent m) i
-  settled-raised i (ListItem m) = entry-raised (ListItem m) m _ 6 i
-  settled-raised i (MapKey m p) = entry-raised (MapKey m p) m _ 5 i
-  settled-raised i (Value m p) = refl
-  settled-raised i (MultilineHint m p) = refl
-  settled-raised i (MultilineValue m q p) = refl
-  settled-raised i (NoValue m) = refl
+  settled-raised x (Newline m) e = refl
+  settled-raised x (Comment m p) e = refl
+  settled-raised x (Indent m) e = refl
+  settled-raised x (Outdent m) e = outdent-raised x m e
+  settled-raised x (ListItem m) e = entry-raised x item 6
+  settled-raised x (MapKey m p) e = entry-raised x key 5
+  settled-raised x (Value m p) e = refl
+  settled-raised x (MultilineHint m p) e = refl
+  settled-raised x (MultilineValue m q p) e = refl
+  settled-raised x (NoValue m) e = refl
 
-  entered-raised : (k : ℕ) (full : Bool) (t : Token) → afterEntry (l + k) full (raiseToken l n t) ≡ raiseRuling l n (afterEntry k full t)
-  unfolding afterEntry raiseToken raiseAnswer
-  entered-raised k full (Newline m) = refl
-  entered-raised k full (Comment m p) = refl
-  entered-raised k full (Indent m) = indent-raised (Indent m) full
-  entered-raised k full (Outdent m) = refl
-  entered-raised k full (ListItem m) = refl
-  entered-raised k full (MapKey m p) = refl
-  entered-raised k full (Value m p) = refl
-  entered-raised k full (MultilineHint m p) = refl
-  entered-raised k full (MultilineValue m q p) = refl
-  entered-raised k full (NoValue m) = refl
+  entered-raised : (k : ℕ) (t : Token) → afterEntry (l + k) false (raiseToken l n t) ≡ raiseRuling l n (afterEntry k false t)
+  unfolding afterEntry onIndent raiseToken raiseAnswer
+  entered-raised k (Newline m) = refl
+  entered-raised k (Comment m p) = refl
+  entered-raised k (Indent m) = refl
+  entered-raised k (Outdent m) = refl
+  entered-raised k (ListItem m) = refl
+  entered-raised k (MapKey m p) = refl
+  entered-raised k (Value m p) = refl
+  entered-raised k (MultilineHint m p) = refl
+  entered-raised k (MultilineValue m q p) = refl
+  entered-raised k (NoValue m) = refl
 
   hinted-raised : (k : ℕ) (t : Token) → afterHint (l + k) (raiseToken l n t) ≡ raiseRuling l n (afterHint k t)
   unfolding afterHint raiseToken raiseAnswer
@@ -125,90 +156,125 @@ module _ (l n : ℕ) where
   hinted-raised k (MultilineValue m q p) = refl
   hinted-raised k (NoValue m) = refl
 
-  ruling-raised : (a : Awaited) (i : Innermost) (full : Bool) (c : Came) → rulingOf (raiseAwaited l a) i full (raise l n c) ≡ raiseRuling l n (rulingOf a i full c)
+  ruling-raised : (w : Awaited) {a b : List Section} → Raised l a b → (c : Came) → RulingRises (ruled (stand w a) c)
+      → ruled (high l w b) (raise l n c) ≡ raiseRuling l n (ruled (stand w a) c)
   unfolding rulingOf onToken onEnd raise raiseAnswer raiseToken
-  ruling-raised awaited.Nothing i full came.End = refl
-  ruling-raised (awaited.Value k) i full came.End = refl
-  ruling-raised (awaited.Multiline k) i full came.End = refl
-  ruling-raised awaited.Nothing i full (came.Token t) = settled-raised i t
-  ruling-raised (awaited.Value k) i full (came.Token t) = entered-raised k full t
-  ruling-raised (awaited.Multiline k) i full (came.Token t) = hinted-raised k t
-  ruling-raised a i full (came.Refused r m) = refl
+  ruling-raised awaited.Nothing x came.End e = refl
+  ruling-raised (awaited.Value k) x came.End e = refl
+  ruling-raised (awaited.Multiline k) x came.End e = refl
+  ruling-raised awaited.Nothing x (came.Token t) e = settled-raised x t e
+  ruling-raised (awaited.Value k) x (came.Token t) e = entered-raised k t
+  ruling-raised (awaited.Multiline k) x (came.Token t) e = hinted-raised k t
+  ruling-raised w x (came.Refused r m) e = refl
 
--- Whether 15 is among the answers
+-- its answer is the first of those that are said
+once-rises : (s : Stand) (r : Ruling) → All Rises (fedOnce s r .says) → RulingRises r
+once-rises s (Says v) e = e .0
+once-rises s End e = tt
+once-rises s Unfit e = e .0 refl
 
-abbrev isUnfit : Answer → Bool
-isUnfit answer.End = false
-isUnfit (answer.Token t) = false
-isUnfit (answer.Refused r m) = eqb r 15
+by-rises : (s : Stand) (r : Ruling) → All Rises (fedBy s r .says) → RulingRises r
+by-rises s (Says v) e = first (v .kept) e
+  where
+    first : (k : Kept) → All Rises (fedTwice s k v .says) → Rises (v .answer)
+    first kept.Nothing e = e .0
+    first kept.End e = e .0
+    first (kept.Token t) e = e .0
+by-rises s End e = tt
+by-rises s Unfit e = e .0 refl
 
-unfoldable pub unfitIn : List Answer → Bool
-unfitIn [] = false
-unfitIn (a ∷ l) = isUnfit a || unfitIn l
+-- The sections after it
 
-or-left : (a b : Bool) → (a || b) ≡ false → a ≡ false
-or-left true b e = e
-or-left false b e = refl
-
-or-right : (a b : Bool) → (a || b) ≡ false → b ≡ false
-or-right true b e = absurd (clash e)
-or-right false b e = e
-
-unfit-append : (l m : List Answer) → unfitIn (l ++ m) ≡ false → (unfitIn l ≡ false) × (unfitIn m ≡ false)
-unfolding unfitIn
-unfit-append [] m e = (refl, e)
-unfit-append (a ∷ l) m e =
-    let i = unfit-append l m (or-right (isUnfit a) (unfitIn (l ++ m)) e) in
-    (rw (or-left (isUnfit a) (unfitIn (l ++ m)) e) (i .0), i .1)
+after-raised : {l : ℕ} {a b : List Section} {y : Answer} {c : Change} → Raised l a b → Turn a y c → Rises y
+    → Raised l (stackAfter c a) (stackAfter (raiseChange l c) b)
+after-raised x misses e = x
+after-raised x (moves (passes p f)) e = x
+after-raised x (moves (opens q)) e = above x
+after-raised top (moves (enters p q c)) e = top
+after-raised (above x) (moves (enters p q c)) e = above x
+after-raised top (moves (closes {o = o} q)) e = let z : 0 ≡ o = cc in absurd (omega arith)
+after-raised (above x) (moves (closes q)) e = x
 
 -- One answer of the tokenizer
 
+abbrev raiseFed : ℕ → ℕ → List Section → Fed → Fed
+raiseFed l n b f = record {
+  says = map (raiseAnswer l n) (f .says);
+  next = high l (f .next .awaited) b;
+  goesOn = f .goesOn;
+}
+
+record RaisedFed (l n : ℕ) (f g : Fed) : Type 0 where
+  sections : List Section
+  same : g ≡ raiseFed l n sections f
+  raised : f .goesOn ≡ true → Raised l (f .next .sections) sections
+
 module _ (l n : ℕ) where
-  once-raised : (s : Stand) (r : Ruling) → unfitIn (fedOnce s r .says) ≡ false → fedOnce (raiseStand l s) (raiseRuling l n r) ≡ raiseFed l n (fedOnce s r)
-  unfolding unfitIn
-  once-raised s (Says v) e = refl
-  once-raised s End e = refl
-  once-raised s Unfit e = absurd (clash e)
+  once-raised : (w : Awaited) {a b : List Section} → Raised l a b → (r : Ruling) → Turns a r → RulingRises r
+      → RaisedFed l n (fedOnce (stand w a) r) (fedOnce (high l w b) (raiseRuling l n r))
+  once-raised w {b = b} x (Says v) t e = record {
+    sections = stackAfter (raiseChange l (v .change)) b;
+    same = refl;
+    raised = λ g. by-bool (v .refused) (λ f. absurd (clash (sym (rw f at g)))) (λ f. after-raised x (t .1 f) e);
+  }
+  once-raised w {b = b} x End t e = record { sections = b; same = refl; raised = λ g. x }
+  once-raised w x Unfit t e = absurd e
 
-  -- what was kept comes again
-  again-raised : (s : Stand) (v : Verdict) (c : Came)
-      → unfitIn (v .answer ∷ fedOnce (standAfter s v) (ruled (standAfter s v) c) .says) ≡ false
-      → before (raiseAnswer l n (v .answer)) (fedOnce (raiseStand l (standAfter s v)) (ruled (raiseStand l (standAfter s v)) (raise l n c)))
-      ≡ raiseFed l n (before (v .answer) (fedOnce (standAfter s v) (ruled (standAfter s v) c)))
-  unfolding unfitIn
-  again-raised s v c e =
-      rw (ruling-raised l n (v .awaited) (innermost (sortsAfter (v .change) (s .sorts))) false c)
-      (ap (before (raiseAnswer l n (v .answer))) (once-raised (standAfter s v) (ruled (standAfter s v) c) (or-right (isUnfit (v .answer)) _ e)))
+  -- what was kept comes again, behind the answer y
+  again-raised : (w : Awaited) {a b : List Section} → Raised l a b → (y : Answer) (c : Came)
+      → All Rises (fedOnce (stand w a) (ruled (stand w a) c) .says)
+      → RaisedFed l n (before y (fedOnce (stand w a) (ruled (stand w a) c)))
+      (before (raiseAnswer l n y) (fedOnce (high l w b) (ruled (high l w b) (raise l n c))))
+  again-raised w {a} x y c e =
+      let r = ruled (stand w a) c in
+      let i = once-rises (stand w a) r e in
+      let h = once-raised w x r (ruling-turns a w c) i in
+      rw (ruling-raised l n w x c i)
+      (record { sections = h .sections; same = ap (before (raiseAnswer l n y)) (h .same); raised = h .raised })
 
-  twice-raised : (s : Stand) (k : Kept) (v : Verdict) → unfitIn (fedTwice s k v .says) ≡ false
-      → fedTwice (raiseStand l s) (raiseKept l n k) (raiseVerdict l n v) ≡ raiseFed l n (fedTwice s k v)
+  twice-raised : (w : Awaited) {a b : List Section} → Raised l a b → (k : Kept) (v : Verdict) → Turns a (Says v) → Keeps k v
+      → All Rises (fedTwice (stand w a) k v .says)
+      → RaisedFed l n (fedTwice (stand w a) k v) (fedTwice (high l w b) (raiseKept l n k) (raiseVerdict l n v))
   unfolding raise
-  twice-raised s kept.Nothing v e = once-raised s (Says v) e
-  twice-raised s kept.End v e = again-raised s v came.End e
-  twice-raised s (kept.Token t) v e = again-raised s v (came.Token t) e
+  twice-raised w x kept.Nothing v t g e = once-raised w x (Says v) t (e .0)
+  twice-raised w x kept.End v t g e =
+      again-raised (v .awaited) (after-raised x (t .1 (g .0)) (e .0)) (v .answer) came.End (e .1)
+  twice-raised w x (kept.Token y) v t g e =
+      again-raised (v .awaited) (after-raised x (t .1 (g .0)) (e .0)) (v .answer) (came.Token y) (e .1)
 
-  by-raised : (s : Stand) (r : Ruling) → unfitIn (fedBy s r .says) ≡ false → fedBy (raiseStand l s) (raiseRuling l n r) ≡ raiseFed l n (fedBy s r)
-  by-raised s (Says v) e = twice-raised s (v .kept) v e
-  by-raised s End e = once-raised s End e
-  by-raised s Unfit e = once-raised s Unfit e
+  by-raised : (w : Awaited) {a b : List Section} → Raised l a b → (r : Ruling) → Turns a r → All Rises (fedBy (stand w a) r .says)
+      → RaisedFed l n (fedBy (stand w a) r) (fedBy (high l w b) (raiseRuling l n r))
+  by-raised w x (Says v) t e = twice-raised w x (v .kept) v t (t .2) e
+  by-raised w x End t e = once-raised w x End t tt
+  by-raised w x Unfit t e = absurd (e .0 refl)
 
-  feed-raised : (s : Stand) (c : Came) → unfitIn (feed s c .says) ≡ false → feed (raiseStand l s) (raise l n c) ≡ raiseFed l n (feed s c)
+  feed-raised : (w : Awaited) {a b : List Section} → Raised l a b → (c : Came) → All Rises (feed (stand w a) c .says)
+      → RaisedFed l n (feed (stand w a) c) (feed (high l w b) (raise l n c))
   unfolding feed
-  feed-raised s c e = rw (ruling-raised l n (s .awaited) (innermost (s .sorts)) false c) (by-raised s (ruled s c) e)
+  feed-raised w {a} x c e =
+      let r = ruled (stand w a) c in
+      rw (ruling-raised l n w x c (by-rises (stand w a) r e)) (by-raised w x r (ruling-turns a w c) e)
 
-  -- Lists
+-- Lists
 
-  pub parsed-raised : (s : Stand) (cs : List Came) → unfitIn (parsed s cs) ≡ false → parsed (raiseStand l s) (raised l n cs) ≡ map (raiseAnswer l n) (parsed s cs)
+rises-append : (l m : List Answer) → All Rises (l ++ m) → All Rises l × All Rises m
+rises-append [] m e = (tt, e)
+rises-append (a ∷ l) m e = let i = rises-append l m (e .1) in ((e .0, i .0), i .1)
+
+module _ (l n : ℕ) where
+  pub parsed-raised : (w : Awaited) {a b : List Section} → Raised l a b → (cs : List Came) → All Rises (parsed (stand w a) cs)
+      → parsed (high l w b) (raised l n cs) ≡ map (raiseAnswer l n) (parsed (stand w a) cs)
   unfolding parsed raise
-  parsed-raised s [] e = ap (λ (f : Fed). f .says) (feed-raised s came.End e)
-  parsed-raised s (c ∷ cs) e =
-      let u = unfit-append (feed s c .says) _ e in
-      rw (feed-raised s c (u .0), map-append (raiseAnswer l n) (feed s c .says) _)
-      (ap (λ (m : List Answer). map (raiseAnswer l n) (feed s c .says) ++ m) (rest (feed s c .goesOn) (parsed-raised (feed s c .next) cs) (u .1)))
+  parsed-raised w x [] e = ap (λ (f : Fed). f .says) (feed-raised l n w x came.End e .same)
+  parsed-raised w {a} x (c ∷ cs) e =
+      let f = feed (stand w a) c in
+      let u = rises-append (f .says) _ e in
+      let h = feed-raised l n w x c (u .0) in
+      rw (h .same, map-append (raiseAnswer l n) (f .says) _)
+      (ap (λ (m : List Answer). map (raiseAnswer l n) (f .says) ++ m)
+      (rest (f .goesOn) _ (λ g. parsed-raised (f .next .awaited) (h .raised g) cs) (u .1)))
     where
-      rest : (on : Bool)
-          → (unfitIn (parsed (feed s c .next) cs) ≡ false → parsed (raiseStand l (feed s c .next)) (raised l n cs) ≡ map (raiseAnswer l n) (parsed (feed s c .next) cs))
-          → unfitIn (cond on (parsed (feed s c .next) cs) []) ≡ false
-          → cond on (parsed (raiseStand l (feed s c .next)) (raised l n cs)) [] ≡ map (raiseAnswer l n) (cond on (parsed (feed s c .next) cs) [])
-      rest true h f = h f
-      rest false h f = refl
+      rest : (on : Bool) (s : List Answer) {r : List Answer} → (on ≡ true → All Rises s → r ≡ map (raiseAnswer l n) s)
+          → All Rises (cond on s []) → cond on r [] ≡ map (raiseAnswer l n) (cond on s [])
+      rest true s h e = h refl e
+      rest false s h e = refl

@@ -36,8 +36,7 @@ use Rattle.unescape_pieces.specs.declared.start.Style.{Style}
 use Rattle.unescape_pieces.specs.declared.start.Style.the-variants.{AsIs, Entry, Block}
 use Rattle.unescape_pieces.proofs.Proper.{Proper, meaning-proper}
 use Rattle.unescape.specs.Unescape.{Unescaped, delivered, unescapeOf}
-use Rattle.unescape.specs.declared.Answer.{Answer}
-use Rattle.unescape.specs.declared.Answer.the-variants.{Plain, Written, Refused}
+use Rattle.unescape.specs.declared.Answer.the-variants.{Plain, Refused}
 use Rattle.unescape_claims.proofs.Readable.{none-text, texts-fit, texts-read}
 use Rattle.joining_claims.specs.Raising.{raiseToken}
 use Rattle.joining_claims.specs.Alike.{Same, Alike}

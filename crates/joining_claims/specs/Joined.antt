@@ -4,7 +4,7 @@
 use Prim.Native.Nat.{ℕ, _+_, _≤_}
 use mathlib.Core.Path.{_≡_}
 use mathlib.Core.List.{List, [], _∷_, _++_, map}
-use mathlib.Core.Bool.{Bool, true, false, cond}
+use mathlib.Core.Bool.{true, cond}
 use lib.ListN.{length}
 use Rattle.text.specs.Numbers.{maxDocument, unexpectedKey, unexpectedItem}
 use Rattle.tokenizer.specs.Token.{lineOf}
@@ -19,14 +19,14 @@ use Rattle.parser_rules.specs.declared.ruling.Sort.{Sort}
 use Rattle.parser_rules.specs.declared.ruling.Sort.the-variants.{Unset, Map, List as Listed}
 use Rattle.parser_rules.specs.declared.ruling.Answer.{Answer}
 use Rattle.parser_rules.specs.declared.ruling.Answer.the-variants as answer
-use Rattle.joining_claims.specs.Raising.{raiseToken, raised}
+use Rattle.joining_claims.specs.Raising.{raiseToken, raiseOpened, raised}
 use Rattle.joining_claims.specs.Tokens.{Closed, topLevel}
 use Rattle.joining_claims.specs.Alike.{Alike}
 
 -- the parser's answers, raised
 unfoldable pub raiseAnswer : ℕ → ℕ → Answer → Answer
 raiseAnswer l n answer.End = answer.End
-raiseAnswer l n (answer.Token t) = answer.Token (raiseToken l n t)
+raiseAnswer l n (answer.Token t o) = answer.Token (raiseToken l n t) (raiseOpened l t o)
 raiseAnswer l n (answer.Refused r m) = answer.Refused r (l + m)
 
 -- every token of a list

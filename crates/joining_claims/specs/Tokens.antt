@@ -5,7 +5,7 @@ use Prim.Native.Nat.{ℕ, _≤_}
 use Prim.Native.Char.{code as byte}
 use mathlib.Core.Path.{_≡_}
 use mathlib.Core.List.{List, [], _∷_, _++_}
-use mathlib.Core.Bool.{Bool, true, false, not, _&&_, _||_}
+use mathlib.Core.Bool.{Bool, true, not, _||_}
 use lib.Dec.{eqb}
 use lib.ListN.{length}
 use Rattle.text.specs.Bytes.{isBlank, isBreak}

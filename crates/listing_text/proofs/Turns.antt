@@ -26,38 +26,38 @@ use Rattle.listing_text.proofs.Placing.{Wrote, both, placed-filled}
 pub end-zero : (a : Answer) → valuesOf a .number ≡ 0 → isEnd a ≡ true
 unfolding valuesOf tokenValues isEnd
 end-zero End e = refl
-end-zero (Token (token.Newline l)) e = absurd (omega arith)
-end-zero (Token (token.Comment l p)) e = absurd (omega arith)
-end-zero (Token (token.Indent l)) e = absurd (omega arith)
-end-zero (Token (token.Outdent l)) e = absurd (omega arith)
-end-zero (Token (token.ListItem l)) e = absurd (omega arith)
-end-zero (Token (token.MapKey l p)) e = absurd (omega arith)
-end-zero (Token (token.Value l p)) e = absurd (omega arith)
-end-zero (Token (token.MultilineHint l p)) e = absurd (omega arith)
-end-zero (Token (token.MultilineValue l i p)) e = absurd (omega arith)
-end-zero (Token (token.NoValue l)) e = absurd (omega arith)
+end-zero (Token (token.Newline l) o) e = absurd (omega arith)
+end-zero (Token (token.Comment l p) o) e = absurd (omega arith)
+end-zero (Token (token.Indent l) o) e = absurd (omega arith)
+end-zero (Token (token.Outdent l) o) e = absurd (omega arith)
+end-zero (Token (token.ListItem l) o) e = absurd (omega arith)
+end-zero (Token (token.MapKey l p) o) e = absurd (omega arith)
+end-zero (Token (token.Value l p) o) e = absurd (omega arith)
+end-zero (Token (token.MultilineHint l p) o) e = absurd (omega arith)
+end-zero (Token (token.MultilineValue l i p) o) e = absurd (omega arith)
+end-zero (Token (token.NoValue l) o) e = absurd (omega arith)
 end-zero (Refused n l) e = absurd (omega arith)
 
 pub not-zero : (a : Answer) → (valuesOf a .number ≡ 0 → ⊥) → isEnd a ≡ false
 unfolding valuesOf isEnd
 not-zero End z = absurd (z refl)
-not-zero (Token t) z = refl
+not-zero (Token t o) z = refl
 not-zero (Refused n l) z = refl
 
 -- the line of a row is that of its answer
 pub line-is : (a : Answer) → isEnd a ≡ false → lineText (rowOf (valuesOf a)) ≡ answerText a
 unfolding lineText answerText valuesOf tokenValues isEnd
 line-is End e = absurd (clash e)
-line-is (Token (token.Newline l)) e = refl
-line-is (Token (token.Comment l p)) e = refl
-line-is (Token (token.Indent l)) e = refl
-line-is (Token (token.Outdent l)) e = refl
-line-is (Token (token.ListItem l)) e = refl
-line-is (Token (token.MapKey l p)) e = refl
-line-is (Token (token.Value l p)) e = refl
-line-is (Token (token.MultilineHint l p)) e = refl
-line-is (Token (token.MultilineValue l i p)) e = refl
-line-is (Token (token.NoValue l)) e = refl
+line-is (Token (token.Newline l) o) e = refl
+line-is (Token (token.Comment l p) o) e = refl
+line-is (Token (token.Indent l) o) e = refl
+line-is (Token (token.Outdent l) o) e = refl
+line-is (Token (token.ListItem l) o) e = refl
+line-is (Token (token.MapKey l p) o) e = refl
+line-is (Token (token.Value l p) o) e = refl
+line-is (Token (token.MultilineHint l p) o) e = refl
+line-is (Token (token.MultilineValue l i p) o) e = refl
+line-is (Token (token.NoValue l) o) e = refl
 line-is (Refused n l) e = let k : 256 + n - 256 ≡ n = omega arith in rw (le-leb 256 (256 + n) (omega arith), k)
 
 -- the loop began at the place n of the buffer o, and has come to the place m of the buffer p, and to a state of the parsing; a row

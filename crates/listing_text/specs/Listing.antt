@@ -34,7 +34,7 @@ tokenText v = rowText (v .line) (kindText false (v .number)) (v .start) (v .end)
 
 unfoldable pub answerText : Answer → List ℕ
 answerText End = []
-answerText (Token t) = tokenText (tokenValues t)
+answerText (Token t o) = tokenText (tokenValues t)
 answerText (Refused n l) = rowText l (kindText true n) 0 0
 
 -- the same by the answer's row, in which a refusal's number is 256 more; End has none

@@ -74,7 +74,7 @@ pub fn listing(doc: &[u8], out: &mut [u8]) -> usize
     if MAX_LISTED < doc.len() {
         return put_row(0, true, 12, 0, 0, at, out);
     }
-    let mut words = [0usize; 213];
+    let mut words = [0usize; 278];
     fresh_parser(&mut words);
     let mut row = [0usize; 7];
     loop {

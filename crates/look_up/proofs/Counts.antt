@@ -49,5 +49,5 @@ module _ (d w : List ℕ) (s : Search) where
   pub answer-counts : (a : Answer) → Counts (suc (counted s)) (onAnswer d w s a)
   unfolding onAnswer
   answer-counts answer.End = tt
-  answer-counts (answer.Token t) = token-counts t
+  answer-counts (answer.Token t o) = token-counts t
   answer-counts (answer.Refused n l) = tt

@@ -16,6 +16,9 @@ use Rattle.token_text.specs.Text.{Text, gives, fails, isText, textIn}
 use Rattle.parser.specs.Lists.{topEntries, parse}
 use Rattle.parser_rules.specs.declared.ruling.Answer.{Answer}
 use Rattle.parser_rules.specs.declared.ruling.Answer.the-variants as answer
+use Rattle.parser_claims.specs.Claims.{All}
+use Rattle.parser_claims.specs.Opened.{Carries}
+use Rattle.parser_claims.proofs.Opened.{carried}
 use Rattle.look_up.specs.Entries.{Key, keysOf, topKeys, refusalIn, extent, entriesOf, isNamed, firstNamed, lookUp}
 use Rattle.look_up.specs.Claims.{NoneNamed, endBefore, KeyFound, NothingFound, RefusalFound}
 use Rattle.look_up.specs.declared.search.Found.{Found}
@@ -32,7 +35,7 @@ refusal-not-at : (l : List Answer) → NotAt (refusalIn l)
 unfolding refusalIn
 refusal-not-at [] = tt
 refusal-not-at (answer.End ∷ l) = refusal-not-at l
-refusal-not-at (answer.Token t ∷ l) = refusal-not-at l
+refusal-not-at (answer.Token t o ∷ l) = refusal-not-at l
 refusal-not-at (answer.Refused n m ∷ l) = tt
 
 text-is : (u : Text) (w : List ℕ) → isText u w ≡ true → u ≡ gives w
@@ -144,16 +147,16 @@ unfolding topEntries
 tops-above n i o [] = refl
 tops-above n i o (answer.End ∷ l) = tops-above n i o l
 tops-above n i o (answer.Refused m j ∷ l) = tops-above n i o l
-tops-above n i o (answer.Token (token.Indent m) ∷ l) = rw (one-above n i) (tops-above n (suc i) o l)
-tops-above n i o (answer.Token (token.Outdent m) ∷ l) = rw (one-above n o) (tops-above n i (suc o) l)
-tops-above n i o (answer.Token (token.ListItem m) ∷ l) = rw (eqb-above n i o, tops-above n i o l)
-tops-above n i o (answer.Token (token.MapKey m p) ∷ l) = rw (eqb-above n i o, tops-above n i o l)
-tops-above n i o (answer.Token (token.Newline m) ∷ l) = tops-above n i o l
-tops-above n i o (answer.Token (token.Comment m p) ∷ l) = tops-above n i o l
-tops-above n i o (answer.Token (token.Value m p) ∷ l) = tops-above n i o l
-tops-above n i o (answer.Token (token.MultilineHint m p) ∷ l) = tops-above n i o l
-tops-above n i o (answer.Token (token.MultilineValue m q p) ∷ l) = tops-above n i o l
-tops-above n i o (answer.Token (token.NoValue m) ∷ l) = tops-above n i o l
+tops-above n i o (answer.Token (token.Indent m) c ∷ l) = rw (one-above n i) (tops-above n (suc i) o l)
+tops-above n i o (answer.Token (token.Outdent m) c ∷ l) = rw (one-above n o) (tops-above n i (suc o) l)
+tops-above n i o (answer.Token (token.ListItem m) c ∷ l) = rw (eqb-above n i o, tops-above n i o l)
+tops-above n i o (answer.Token (token.MapKey m p) c ∷ l) = rw (eqb-above n i o, tops-above n i o l)
+tops-above n i o (answer.Token (token.Newline m) c ∷ l) = tops-above n i o l
+tops-above n i o (answer.Token (token.Comment m p) c ∷ l) = tops-above n i o l
+tops-above n i o (answer.Token (token.Value m p) c ∷ l) = tops-above n i o l
+tops-above n i o (answer.Token (token.MultilineHint m p) c ∷ l) = tops-above n i o l
+tops-above n i o (answer.Token (token.MultilineValue m q p) c ∷ l) = tops-above n i o l
+tops-above n i o (answer.Token (token.NoValue m) c ∷ l) = tops-above n i o l
 
 level : (i o : ℕ) (l : List Answer) → eqb i o ≡ true → topEntries i o l ≡ topEntries 0 0 l
 level i o l e = let z = sym (eqb-true i o e) in rw z (rw add-zero at (tops-above i 0 0 l))
@@ -162,7 +165,8 @@ level i o l e = let z = sym (eqb-true i o e) in rw z (rw add-zero at (tops-above
 record Splits (i o : ℕ) (l : List Answer) (a : List Key) (k : Key) (b : List Key) : Type 0 where
   above : List Answer
   below : List Answer
-  split : l ≡ above ++ answer.Token (token.MapKey (k .line) (k .text)) ∷ below
+  carried : ℕ
+  split : l ≡ above ++ answer.Token (token.MapKey (k .line) (k .text)) carried ∷ below
   upper : keysOf (topEntries i o above) ≡ a
   lower : topKeys below ≡ b
 
@@ -172,29 +176,31 @@ module _ {k : Key} {b : List Key} where
       → (keysOf (topEntries j q l) ≡ a ++ k ∷ b → Splits j q l a k b) → keysOf (topEntries i o (t ∷ l)) ≡ a ++ k ∷ b → Splits i o (t ∷ l) a k b
   behind t l h f e =
       let x = f (sym (h l) ∙ e) in
-      record { above = t ∷ x .above; below = x .below; split = ap (λ y. t ∷ y) (x .split); upper = h (x .above) ∙ x .upper; lower = x .lower }
+      record { above = t ∷ x .above; below = x .below; carried = x .carried; split = ap (λ y. t ∷ y) (x .split); upper = h (x .above) ∙ x .upper; lower = x .lower }
 
   -- at a top-level key
-  at-top : (m : ℕ) (p : Part) (l : List Answer) (i o : ℕ) → eqb i o ≡ true → (c : List Key) → record { line = m; text = p } ∷ keysOf (topEntries i o l) ≡ c ++ k ∷ b
-      → ((c : List Key) → keysOf (topEntries i o l) ≡ c ++ k ∷ b → Splits i o l c k b) → Splits i o (answer.Token (token.MapKey m p) ∷ l) c k b
+  at-top : (m : ℕ) (p : Part) (z : ℕ) (l : List Answer) (i o : ℕ) → eqb i o ≡ true → (c : List Key) → record { line = m; text = p } ∷ keysOf (topEntries i o l) ≡ c ++ k ∷ b
+      → ((c : List Key) → keysOf (topEntries i o l) ≡ c ++ k ∷ b → Splits i o l c k b) → Splits i o (answer.Token (token.MapKey m p) z ∷ l) c k b
   unfolding topEntries keysOf
-  at-top m p l i o t [] e f =
+  at-top m p z l i o t [] e f =
       let h : _≡_ {A = Key} (record { line = m; text = p }) k = cc in
       let r : keysOf (topEntries i o l) ≡ b = cc in
       record {
         above = [];
         below = l;
-        split = ap (λ (x : Key). answer.Token (token.MapKey (x .line) (x .text)) ∷ l) h;
+        carried = z;
+        split = ap (λ (x : Key). answer.Token (token.MapKey (x .line) (x .text)) z ∷ l) h;
         upper = refl;
         lower = ap keysOf (sym (level i o l t)) ∙ r;
       }
-  at-top m p l i o t (x ∷ c) e f =
+  at-top m p z l i o t (x ∷ c) e f =
       let h : _≡_ {A = Key} (record { line = m; text = p }) x = cc in
       let s = f c cc in
       record {
-        above = answer.Token (token.MapKey m p) ∷ s .above;
+        above = answer.Token (token.MapKey m p) z ∷ s .above;
         below = s .below;
-        split = ap (λ y. answer.Token (token.MapKey m p) ∷ y) (s .split);
+        carried = s .carried;
+        split = ap (λ y. answer.Token (token.MapKey m p) z ∷ y) (s .split);
         upper = rw (t, h, s .upper);
         lower = s .lower;
       }
@@ -204,21 +210,26 @@ unfolding topEntries keysOf
 splits [] i o a k b e = absurd (omega (arith, ap length e, length-append a (k ∷ b)))
 splits (answer.End ∷ l) i o a k b e = behind answer.End l (λ m. refl) (splits l i o a k b) e
 splits (answer.Refused n j ∷ l) i o a k b e = behind (answer.Refused n j) l (λ m. refl) (splits l i o a k b) e
-splits (answer.Token (token.Indent n) ∷ l) i o a k b e = behind (answer.Token (token.Indent n)) l (λ m. refl) (splits l (suc i) o a k b) e
-splits (answer.Token (token.Outdent n) ∷ l) i o a k b e = behind (answer.Token (token.Outdent n)) l (λ m. refl) (splits l i (suc o) a k b) e
-splits (answer.Token (token.ListItem n) ∷ l) i o a k b e =
-    behind (answer.Token (token.ListItem n)) l (λ m. by-bool (eqb i o) (λ t. rw t) (λ f. rw f)) (splits l i o a k b) e
-splits (answer.Token (token.MapKey n p) ∷ l) i o a k b e =
+splits (answer.Token (token.Indent n) z ∷ l) i o a k b e = behind (answer.Token (token.Indent n) z) l (λ m. refl) (splits l (suc i) o a k b) e
+splits (answer.Token (token.Outdent n) z ∷ l) i o a k b e = behind (answer.Token (token.Outdent n) z) l (λ m. refl) (splits l i (suc o) a k b) e
+splits (answer.Token (token.ListItem n) z ∷ l) i o a k b e =
+    behind (answer.Token (token.ListItem n) z) l (λ m. by-bool (eqb i o) (λ t. rw t) (λ f. rw f)) (splits l i o a k b) e
+splits (answer.Token (token.MapKey n p) z ∷ l) i o a k b e =
     by-bool (eqb i o)
-    (λ t. at-top n p l i o t a (rw t at e) (λ c. splits l i o c k b))
-    (λ f. behind (answer.Token (token.MapKey n p)) l (λ m. rw f) (splits l i o a k b) e)
-splits (answer.Token (token.Newline n) ∷ l) i o a k b e = behind (answer.Token (token.Newline n)) l (λ m. refl) (splits l i o a k b) e
-splits (answer.Token (token.Comment n p) ∷ l) i o a k b e = behind (answer.Token (token.Comment n p)) l (λ m. refl) (splits l i o a k b) e
-splits (answer.Token (token.Value n p) ∷ l) i o a k b e = behind (answer.Token (token.Value n p)) l (λ m. refl) (splits l i o a k b) e
-splits (answer.Token (token.MultilineHint n p) ∷ l) i o a k b e = behind (answer.Token (token.MultilineHint n p)) l (λ m. refl) (splits l i o a k b) e
-splits (answer.Token (token.MultilineValue n q p) ∷ l) i o a k b e =
-    behind (answer.Token (token.MultilineValue n q p)) l (λ m. refl) (splits l i o a k b) e
-splits (answer.Token (token.NoValue n) ∷ l) i o a k b e = behind (answer.Token (token.NoValue n)) l (λ m. refl) (splits l i o a k b) e
+    (λ t. at-top n p z l i o t a (rw t at e) (λ c. splits l i o c k b))
+    (λ f. behind (answer.Token (token.MapKey n p) z) l (λ m. rw f) (splits l i o a k b) e)
+splits (answer.Token (token.Newline n) z ∷ l) i o a k b e = behind (answer.Token (token.Newline n) z) l (λ m. refl) (splits l i o a k b) e
+splits (answer.Token (token.Comment n p) z ∷ l) i o a k b e = behind (answer.Token (token.Comment n p) z) l (λ m. refl) (splits l i o a k b) e
+splits (answer.Token (token.Value n p) z ∷ l) i o a k b e = behind (answer.Token (token.Value n p) z) l (λ m. refl) (splits l i o a k b) e
+splits (answer.Token (token.MultilineHint n p) z ∷ l) i o a k b e = behind (answer.Token (token.MultilineHint n p) z) l (λ m. refl) (splits l i o a k b) e
+splits (answer.Token (token.MultilineValue n q p) z ∷ l) i o a k b e =
+    behind (answer.Token (token.MultilineValue n q p) z) l (λ m. refl) (splits l i o a k b) e
+splits (answer.Token (token.NoValue n) z ∷ l) i o a k b e = behind (answer.Token (token.NoValue n) z) l (λ m. refl) (splits l i o a k b) e
+
+-- an answer in the midst of others
+amid : (P : Answer → Type 0) (a : List Answer) (x : Answer) (b : List Answer) → All P (a ++ x ∷ b) → P x
+amid P [] x b h = h .0
+amid P (y ∷ a) x b h = amid P a x b (h .1)
 
 -- The claims
 
@@ -227,11 +238,12 @@ unfolding lookUp
 key-found d w l p e =
     let x = at-key d w (refusalIn (parse d)) (refusal-not-at (parse d)) (topKeys (parse d)) e in
     let s = splits (parse d) 0 0 (x .above) (record { line = l; text = x .text }) (x .below) (x .split) in
+    let z : s .carried ≡ 0 = amid Carries (s .above) _ (s .below) (rw (s .split) at (carried d)) in
     record {
       key = x .text;
       above = s .above;
       below = s .below;
-      split = s .split;
+      split = s .split ∙ ap (λ c. s .above ++ answer.Token (token.MapKey l (x .text)) c ∷ s .below) z;
       top = rw (s .upper, s .lower) (x .split);
       named = text-is (textIn d (token.MapKey l (x .text))) w (x .named);
       first = rw (s .upper) (x .first);

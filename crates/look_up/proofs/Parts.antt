@@ -61,7 +61,7 @@ refusal-within : (d : List ℕ) (l : List Answer) → FoundWithin d (refusalIn l
 unfolding refusalIn
 refusal-within d [] = tt
 refusal-within d (answer.End ∷ l) = refusal-within d l
-refusal-within d (answer.Token t ∷ l) = refusal-within d l
+refusal-within d (answer.Token t o ∷ l) = refusal-within d l
 refusal-within d (answer.Refused n m ∷ l) = tt
 
 module _ (d w : List ℕ) where

@@ -16,14 +16,14 @@ use Rattle.look_up.specs.declared.search.Search.{Search}
 pub row-is : (d w : List ℕ) (s : Search) (a : Answer) → onRow d w s (rowOf (valuesOf a)) ≡ onAnswer d w s a
 unfolding onRow onAnswer onToken valuesOf tokenValues
 row-is d w s answer.End = refl
-row-is d w s (answer.Token (token.Newline l)) = refl
-row-is d w s (answer.Token (token.Comment l p)) = refl
-row-is d w s (answer.Token (token.Indent l)) = refl
-row-is d w s (answer.Token (token.Outdent l)) = refl
-row-is d w s (answer.Token (token.ListItem l)) = refl
-row-is d w s (answer.Token (token.MapKey l p)) = refl
-row-is d w s (answer.Token (token.Value l p)) = refl
-row-is d w s (answer.Token (token.MultilineHint l p)) = refl
-row-is d w s (answer.Token (token.MultilineValue l i p)) = refl
-row-is d w s (answer.Token (token.NoValue l)) = refl
+row-is d w s (answer.Token (token.Newline l) o) = refl
+row-is d w s (answer.Token (token.Comment l p) o) = refl
+row-is d w s (answer.Token (token.Indent l) o) = refl
+row-is d w s (answer.Token (token.Outdent l) o) = refl
+row-is d w s (answer.Token (token.ListItem l) o) = refl
+row-is d w s (answer.Token (token.MapKey l p) o) = refl
+row-is d w s (answer.Token (token.Value l p) o) = refl
+row-is d w s (answer.Token (token.MultilineHint l p) o) = refl
+row-is d w s (answer.Token (token.MultilineValue l i p) o) = refl
+row-is d w s (answer.Token (token.NoValue l) o) = refl
 row-is d w s (answer.Refused n l) = let e : 256 + n - 256 ≡ n = omega arith in rw (le-leb 256 (256 + n) (omega arith), e)

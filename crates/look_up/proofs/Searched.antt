@@ -78,22 +78,22 @@ module _ (d w : List ℕ) where
       (λ s. rw s)
   on-key i o (At k a) m p l = refl
 
-  on-token : (i o : ℕ) (h : Hit) (t : Token) (l : List Answer)
-      → searched (search i o h) (answer.Token t ∷ l) ≡ turned (onToken d w (search i o h) t) l
+  on-token : (i o : ℕ) (h : Hit) (t : Token) (z : ℕ) (l : List Answer)
+      → searched (search i o h) (answer.Token t z ∷ l) ≡ turned (onToken d w (search i o h) t) l
   unfolding searched refusalIn topEntries keysOf onToken onKey
-  on-token i o h (token.Newline m) l = refl
-  on-token i o h (token.Comment m p) l = refl
-  on-token i o h (token.Indent m) l = rw add-one
-  on-token i o h (token.Outdent m) l = rw add-one
-  on-token i o h (token.ListItem m) l = by-bool (eqb i o) (λ e. rw e) (λ e. rw e)
-  on-token i o h (token.MapKey m p) l = by-bool (eqb i o) (λ e. rw e (on-key i o h m p l)) (λ e. rw e)
-  on-token i o h (token.Value m p) l = refl
-  on-token i o h (token.MultilineHint m p) l = refl
-  on-token i o h (token.MultilineValue m q p) l = refl
-  on-token i o h (token.NoValue m) l = refl
+  on-token i o h (token.Newline m) z l = refl
+  on-token i o h (token.Comment m p) z l = refl
+  on-token i o h (token.Indent m) z l = rw add-one
+  on-token i o h (token.Outdent m) z l = rw add-one
+  on-token i o h (token.ListItem m) z l = by-bool (eqb i o) (λ e. rw e) (λ e. rw e)
+  on-token i o h (token.MapKey m p) z l = by-bool (eqb i o) (λ e. rw e (on-key i o h m p l)) (λ e. rw e)
+  on-token i o h (token.Value m p) z l = refl
+  on-token i o h (token.MultilineHint m p) z l = refl
+  on-token i o h (token.MultilineValue m q p) z l = refl
+  on-token i o h (token.NoValue m) z l = refl
 
   pub searched-step : {n : ℕ} {a : Answer} {l : List Answer} (s : Search) → Ordered n (a ∷ l)
       → searched s (a ∷ l) ≡ turned (onAnswer d w s a) l
   unfolding searched refusalIn topEntries keysOf onAnswer
   searched-step s last = refused (s .hit) _ _
-  searched-step s (more {t = t} {l = l} h r) = on-token (s .indents) (s .outdents) (s .hit) t l
+  searched-step s (more {o = z} {t = t} {l = l} h r) = on-token (s .indents) (s .outdents) (s .hit) t z l

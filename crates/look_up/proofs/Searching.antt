@@ -44,7 +44,7 @@ begins d w h =
 is-end : (a : Answer) → isEnd a ≡ true → a ≡ answer.End
 unfolding isEnd
 is-end answer.End e = refl
-is-end (answer.Token t) e = absurd (false≢true e)
+is-end (answer.Token t o) e = absurd (false≢true e)
 is-end (answer.Refused n l) e = absurd (false≢true e)
 
 module _ (d w : List ℕ) (t : State) (s : Search) (c : Searching d w t s) where

@@ -29,7 +29,7 @@ pub record Founded (d w : List ℕ) (l : ℕ) (p : Part) : Type 0 where
   pub key : Part
   pub above : List Answer
   pub below : List Answer
-  pub split : parse d ≡ above ++ answer.Token (token.MapKey l key) ∷ below
+  pub split : parse d ≡ above ++ answer.Token (token.MapKey l key) 0 ∷ below
   pub top : topKeys (parse d) ≡ topKeys above ++ record { line = l; text = key } ∷ topKeys below
   pub named : textIn d (token.MapKey l key) ≡ gives w
   pub first : NoneNamed d w (topKeys above)

@@ -42,7 +42,7 @@ topKeys l = keysOf (topEntries 0 0 l)
 unfoldable pub refusalIn : List Answer → Found
 refusalIn [] = Nothing
 refusalIn (answer.End ∷ l) = refusalIn l
-refusalIn (answer.Token t ∷ l) = refusalIn l
+refusalIn (answer.Token t o ∷ l) = refusalIn l
 refusalIn (answer.Refused n m ∷ l) = Refused n m
 
 -- the key's line, and the part from its first byte to another place

@@ -50,7 +50,7 @@ onToken d w s (token.NoValue l) = Goes s
 
 unfoldable pub onAnswer : List ℕ → List ℕ → Search → Answer → Turn
 onAnswer d w s answer.End = Ends (closedAt (s .hit) (length d))
-onAnswer d w s (answer.Token t) = onToken d w s t
+onAnswer d w s (answer.Token t o) = onToken d w s t
 onAnswer d w s (answer.Refused n l) = Ends (found.Refused n l)
 
 -- the same by the row of an answer

@@ -113,7 +113,7 @@ pub fn look_up(doc: &[u8], wanted: &[u8]) -> Found
     if State::MAX_DOCUMENT < doc.len() {
         return Found::Refused(12, 0);
     }
-    let mut words = [0usize; 213];
+    let mut words = [0usize; 278];
     fresh_parser(&mut words);
     let mut row = [0usize; 7];
     let mut search = Search {

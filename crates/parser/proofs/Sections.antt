@@ -29,7 +29,7 @@ unfolding innermostOf
 inner-past l zero h = refl
 inner-past l (suc k) h = rw (le-ltb k 65 (omega arith))
 
-pub inner-last : (l : List Section) (n : ℕ) → (n ≡ 0 → ⊥) → n ≤ 65 → innermostOf l n ≡ Of (getD l (n - 1) noSort .sort)
+pub inner-last : (l : List Section) (n : ℕ) → (n ≡ 0 → ⊥) → n ≤ 65 → innermostOf l n ≡ Of (getD l (n - 1) noSort .sort) (getD l (n - 1) noSort .line)
 unfolding innermostOf
 inner-last l zero z h = absurd (z refl)
 inner-last l (suc k) z h = rw (lt-ltb k 65 (omega arith), sub-one)
@@ -41,24 +41,24 @@ Asks n End = Unit {0}
 Asks n Unfit = Unit {0}
 
 -- by cases on the innermost section, which is there where 0 < n ≤ 65
-by-inner : (P : Innermost → Type 0) (l : List Section) (n : ℕ) → P Missing → ((s : Sort) → 0 < n → n ≤ 65 → P (Of s))
+by-inner : (P : Innermost → Type 0) (l : List Section) (n : ℕ) → P Missing → ((s : Sort) (o : ℕ) → 0 < n → n ≤ 65 → P (Of s o))
     → P (innermostOf l n)
 unfolding innermostOf
 by-inner P l zero p q = p
-by-inner P l (suc k) p q = on-cond P (ltb k 65) (λ e. let h = ltb-true k 65 e in q _ (omega arith) (omega arith)) (λ e. p)
+by-inner P l (suc k) p q = on-cond P (ltb k 65) (λ e. let h = ltb-true k 65 e in q _ _ (omega arith) (omega arith)) (λ e. p)
 
 module _ (l : List Section) (n : ℕ) where
   entry : (t : Token) (line : ℕ) (s : Sort) (k : ℕ) → Asks n (onEntry t line s k (innermostOf l n))
   unfolding onEntry
-  entry t line s k = by-inner (λ i. Asks n (onEntry t line s k i)) l n tt (λ i p q. on-cond (Asks n) (clashes i s) (λ e. tt) (λ e. (p, q)))
+  entry t line s k = by-inner (λ i. Asks n (onEntry t line s k i)) l n tt (λ i o p q. on-cond (Asks n) (clashes i s) (λ e. tt) (λ e. (p, q)))
 
   outdent : (t : Token) → Asks n (onOutdent t (innermostOf l n))
   unfolding onOutdent
-  outdent t = by-inner (λ i. Asks n (onOutdent t i)) l n tt (λ i p q. p)
+  outdent t = by-inner (λ i. Asks n (onOutdent t i)) l n tt (λ i o p q. p)
 
-  indent : (t : Token) → Asks n (onIndent t (fullOf n))
+  indent : (t : Token) (k : ℕ) → Asks n (onIndent t k (fullOf n))
   unfolding onIndent
-  indent t = on-cond (Asks n) (fullOf n) (λ e. tt) (λ e. leb-false 65 n e)
+  indent t k = on-cond (Asks n) (fullOf n) (λ e. tt) (λ e. leb-false 65 n e)
 
   nothing : (t : Token) → Asks n (settled (innermostOf l n) t)
   unfolding settled
@@ -77,7 +77,7 @@ module _ (l : List Section) (n : ℕ) where
   unfolding afterEntry
   value k (token.Newline m) = tt
   value k (token.Comment m p) = tt
-  value k (token.Indent m) = indent (token.Indent m)
+  value k (token.Indent m) = indent (token.Indent m) k
   value k (token.Outdent m) = tt
   value k (token.ListItem m) = tt
   value k (token.MapKey m p) = tt

@@ -14,7 +14,7 @@ use Rattle.tokenizer.specs.declared.token.Token.the-variants as token
 use Rattle.tokenizer.specs.declared.state.Answer.{Answer as Came}
 use Rattle.tokenizer.specs.declared.state.Answer.the-variants as came
 use Rattle.parser_rules.specs.Ruling.{rulingOf}
-use Rattle.parser.specs.Step.{stepOf, fresh}
+use Rattle.parser.specs.Step.{unsorted, noSort, stepOf, fresh}
 use Rattle.parser_rules.specs.declared.ruling.Answer.{Answer}
 use Rattle.parser_rules.specs.declared.ruling.Answer.the-variants as answer
 use Rattle.parser_rules.specs.declared.ruling.Sort.{Sort}
@@ -30,11 +30,12 @@ use Rattle.parser_rules.specs.declared.ruling.Change.the-variants.{Keep, Fix, O
 use Rattle.parser_rules.specs.declared.ruling.Verdict.{Verdict}
 use Rattle.parser_rules.specs.declared.ruling.Ruling.{Ruling}
 use Rattle.parser_rules.specs.declared.ruling.Ruling.the-variants.{Says, End, Unfit}
+use Rattle.parser.specs.declared.state.Section.{Section}
 use Rattle.parser.specs.declared.state.State.{State}
 
 unfoldable pub isEnd : Answer → Bool
 isEnd answer.End = true
-isEnd (answer.Token t) = false
+isEnd (answer.Token t o) = false
 isEnd (answer.Refused n l) = false
 
 -- from the first state on, the list's answers come one by one, and at the last state End comes next
@@ -48,23 +49,22 @@ pub data ParseList (d : List ℕ) : List Answer → Type 0 where
   over : maxDocument < length d → ParseList d (answer.Refused tooLong 0 ∷ [])
   read : {l : List Answer} {u : State} → length d ≤ maxDocument → Parses d fresh l u → ParseList d l
 
--- Intermediate, the parser over the tokenizer's list: what is awaited, and the sorts of the open sections, the innermost
--- first.
+-- Intermediate, the parser over the tokenizer's list: what is awaited, and the open sections, the innermost first.
 pub record Stand : Type 0 where
   pub awaited : Awaited
-  pub sorts : List Sort
+  pub sections : List Section
 
-abbrev pub innermost : List Sort → Innermost
+abbrev pub innermost : List Section → Innermost
 innermost [] = Missing
-innermost (s ∷ l) = Of s
+innermost (s ∷ l) = Of (s .sort) (s .line)
 
-abbrev pub sortsAfter : Change → List Sort → List Sort
-sortsAfter Keep l = l
-sortsAfter (Fix s) [] = []
-sortsAfter (Fix s) (r ∷ l) = s ∷ l
-sortsAfter Open l = Unset ∷ l
-sortsAfter Close [] = []
-sortsAfter Close (r ∷ l) = l
+abbrev pub stackAfter : Change → List Section → List Section
+stackAfter Keep l = l
+stackAfter (Fix s) [] = []
+stackAfter (Fix s) (r ∷ l) = record { sort = s; line = r .line } ∷ l
+stackAfter (Open o) l = unsorted o ∷ l
+stackAfter Close [] = []
+stackAfter Close (r ∷ l) = l
 
 -- what one answer of the tokenizer makes the parser say, where it then stands, and whether it goes on
 pub record Fed : Type 0 where
@@ -76,7 +76,7 @@ abbrev pub unfitFed : Stand → Fed
 unfitFed s = record { says = answer.Refused unfitState 0 ∷ []; next = s; goesOn = false }
 
 abbrev pub standAfter : Stand → Verdict → Stand
-standAfter s v = record { awaited = v .awaited; sorts = sortsAfter (v .change) (s .sorts) }
+standAfter s v = record { awaited = v .awaited; sections = stackAfter (v .change) (s .sections) }
 
 -- nothing kept: the answer, and on unless refused
 abbrev pub fedOnce : Stand → Ruling → Fed
@@ -88,7 +88,7 @@ abbrev pub before : Answer → Fed → Fed
 before a f = record { says = a ∷ f .says; next = f .next; goesOn = f .goesOn }
 
 abbrev pub ruled : Stand → Came → Ruling
-ruled s c = rulingOf (s .awaited) (innermost (s .sorts)) false c
+ruled s c = rulingOf (s .awaited) (innermost (s .sections)) false c
 
 -- what was kept comes again
 abbrev pub fedTwice : Stand → Kept → Verdict → Fed
@@ -110,7 +110,7 @@ parsed s [] = feed s came.End .says
 parsed s (c ∷ l) = let r = parsed (feed s c .next) l in feed s c .says ++ cond (feed s c .goesOn) r []
 
 abbrev pub freshStand : Stand
-freshStand = record { awaited = awaited.Nothing; sorts = Unset ∷ [] }
+freshStand = record { awaited = awaited.Nothing; sections = noSort ∷ [] }
 
 -- The list of a document.
 unfoldable pub parse : List ℕ → List Answer
@@ -120,7 +120,7 @@ parse d = let r = parsed freshStand (tokens d) in cond (ltb maxDocument (length 
 unfoldable pub refusedIn : List Answer → Bool
 refusedIn [] = false
 refusedIn (answer.End ∷ l) = refusedIn l
-refusedIn (answer.Token t ∷ l) = refusedIn l
+refusedIn (answer.Token t o ∷ l) = refusedIn l
 refusedIn (answer.Refused n m ∷ l) = true
 
 abbrev pub Accepted : List ℕ → Type 0
@@ -131,16 +131,16 @@ unfoldable pub topEntries : ℕ → ℕ → List Answer → List Token
 topEntries i o [] = []
 topEntries i o (answer.End ∷ l) = topEntries i o l
 topEntries i o (answer.Refused n m ∷ l) = topEntries i o l
-topEntries i o (answer.Token (token.Indent m) ∷ l) = topEntries (suc i) o l
-topEntries i o (answer.Token (token.Outdent m) ∷ l) = topEntries i (suc o) l
-topEntries i o (answer.Token (token.ListItem m) ∷ l) = let r = topEntries i o l in cond (eqb i o) (token.ListItem m ∷ r) r
-topEntries i o (answer.Token (token.MapKey m p) ∷ l) = let r = topEntries i o l in cond (eqb i o) (token.MapKey m p ∷ r) r
-topEntries i o (answer.Token (token.Newline m) ∷ l) = topEntries i o l
-topEntries i o (answer.Token (token.Comment m p) ∷ l) = topEntries i o l
-topEntries i o (answer.Token (token.Value m p) ∷ l) = topEntries i o l
-topEntries i o (answer.Token (token.MultilineHint m p) ∷ l) = topEntries i o l
-topEntries i o (answer.Token (token.MultilineValue m q p) ∷ l) = topEntries i o l
-topEntries i o (answer.Token (token.NoValue m) ∷ l) = topEntries i o l
+topEntries i o (answer.Token (token.Indent m) k ∷ l) = topEntries (suc i) o l
+topEntries i o (answer.Token (token.Outdent m) k ∷ l) = topEntries i (suc o) l
+topEntries i o (answer.Token (token.ListItem m) k ∷ l) = let r = topEntries i o l in cond (eqb i o) (token.ListItem m ∷ r) r
+topEntries i o (answer.Token (token.MapKey m p) k ∷ l) = let r = topEntries i o l in cond (eqb i o) (token.MapKey m p ∷ r) r
+topEntries i o (answer.Token (token.Newline m) k ∷ l) = topEntries i o l
+topEntries i o (answer.Token (token.Comment m p) k ∷ l) = topEntries i o l
+topEntries i o (answer.Token (token.Value m p) k ∷ l) = topEntries i o l
+topEntries i o (answer.Token (token.MultilineHint m p) k ∷ l) = topEntries i o l
+topEntries i o (answer.Token (token.MultilineValue m q p) k ∷ l) = topEntries i o l
+topEntries i o (answer.Token (token.NoValue m) k ∷ l) = topEntries i o l
 
 -- the sort that a key or an item is of
 abbrev pub entrySort : Token → Sort

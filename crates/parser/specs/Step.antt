@@ -1,4 +1,5 @@
--- Law: document 01, 'Parser': the state, and the step over it. 12, then 15, then End once refused, then the rules.
+-- Law: document 01, 'Parser', and document 02, request 5, the line that a section's record keeps: the state, and the step
+-- over it. 12, then 15, then End once refused, then the rules.
 use Prim.Native.Nat.{ℕ, zero, suc, _+_, _-_, _≤_, _<_}
 use mathlib.Core.List.{List}
 use mathlib.Core.Bool.{Bool, true, false, cond}
@@ -33,14 +34,18 @@ use Rattle.parser.specs.declared.state.Step.{Step}
 abbrev pub maxSections : ℕ
 maxSections = 1 + maxOpen
 
--- a section of no sort yet
+-- a section of no sort yet, which the key or item of line l opens
+abbrev pub unsorted : ℕ → Section
+unsorted l = record { sort = Unset; line = l }
+
+-- the top level's: no line opens it
 abbrev pub noSort : Section
-noSort = record { sort = Unset }
+noSort = unsorted 0
 
 -- the innermost of the first count sections; an empty record has none, nor has one that counts over 65
 unfoldable pub innermostOf : List Section → ℕ → Innermost
 innermostOf l zero = Missing
-innermostOf l (suc n) = cond (ltb n maxSections) (Of (getD l n noSort .sort)) Missing
+innermostOf l (suc n) = cond (ltb n maxSections) (Of (getD l n noSort .sort) (getD l n noSort .line)) Missing
 
 -- no room for one more
 abbrev pub fullOf : ℕ → Bool
@@ -48,21 +53,21 @@ fullOf n = leb maxSections n
 
 unfoldable pub sectionsAfter : Change → List Section → ℕ → List Section
 sectionsAfter Keep l n = l
-sectionsAfter (Fix s) l n = set l (n - 1) (record { sort = s })
-sectionsAfter Open l n = set l n noSort
+sectionsAfter (Fix s) l n = set l (n - 1) (record { sort = s; line = getD l (n - 1) noSort .line })
+sectionsAfter (Open o) l n = set l n (unsorted o)
 sectionsAfter Close l n = l
 
 unfoldable pub countAfter : Change → ℕ → ℕ
 countAfter Keep n = n
 countAfter (Fix s) n = n
-countAfter Open n = n + 1
+countAfter (Open o) n = n + 1
 countAfter Close n = n - 1
 
 -- the record has what a change needs: a section to fix or to close, room for one to open
 abbrev pub ChangeFits : Change → ℕ → Type 0
 ChangeFits Keep n = Unit {0}
 ChangeFits (Fix s) n = (0 < n) × (n ≤ maxSections)
-ChangeFits Open n = n < maxSections
+ChangeFits (Open o) n = n < maxSections
 ChangeFits Close n = 0 < n
 
 -- the state after a verdict, t being the tokenizer's

@@ -10,11 +10,12 @@ use parser_rules::Verdict;
 use parser_rules::rule;
 ghost use mathlib.Core.Path.{_≡_};
 ghost use Prim.Native.Nat.{_-_, _≤_, _<_};
-ghost use lib.ListN.{set};
+ghost use lib.ListN.{getD, set};
 ghost use Rattle.parser_rules.specs.Ruling.{valuesOf};
 ghost use Rattle.parser.specs.Step.{
   maxSections,
   noSort,
+  unsorted,
   ChangeFits,
   innermostOf,
   sectionsAfter,
@@ -27,9 +28,10 @@ ghost use Rattle.parser.specs.Step.{
   fresh,
 };
 
-// An open section. The first is the top level.
+// An open section: its sort, and the line of the key or item that opened it. The first is the top level, of line 0.
 pub struct Section {
     pub sort: Sort,
+    pub line: usize,
 }
 
 // Where the parsing stands. The open sections, the Rust's stack, are the first `count` of `sections`.
@@ -50,19 +52,26 @@ pub struct Step {
 fn fixed(sections: [Section; 65], count: usize, sort: Sort) -> [Section; 65]
     requires { ⌜ 0 < count ⌝ }
     requires { ⌜ count ≤ maxSections ⌝ }
-    ensures { λ r. ⌜ r ≡ set sections (count - 1) (record { sort = sort }) ⌝ }
+    ensures { λ r. ⌜ r ≡ set sections (count - 1) (record { sort = sort; line = getD sections (count - 1) noSort .line }) ⌝ }
 {
     let mut out = sections;
-    out[count - 1] = Section { sort };
+    let old = out[count - 1];
+    out[count - 1] = Section {
+        sort,
+        line: old.line,
+    };
     out
 }
 
-fn opened(sections: [Section; 65], count: usize) -> [Section; 65]
+fn opened(sections: [Section; 65], count: usize, line: usize) -> [Section; 65]
     requires { ⌜ count < maxSections ⌝ }
-    ensures { λ r. ⌜ r ≡ set sections count noSort ⌝ }
+    ensures { λ r. ⌜ r ≡ set sections count (unsorted line) ⌝ }
 {
     let mut out = sections;
-    out[count] = Section { sort: Sort::Unset };
+    out[count] = Section {
+        sort: Sort::Unset,
+        line,
+    };
     out
 }
 
@@ -73,7 +82,7 @@ fn sections_after(change: Change, sections: [Section; 65], count: usize) -> [Sec
     match change {
         Change::Keep => sections,
         Change::Fix(sort) => fixed(sections, count, sort),
-        Change::Open => opened(sections, count),
+        Change::Open(line) => opened(sections, count, line),
         Change::Close => sections,
     }
 }
@@ -85,7 +94,7 @@ fn count_after(change: Change, count: usize) -> usize
     match change {
         Change::Keep => count,
         Change::Fix(_) => count,
-        Change::Open => count + 1,
+        Change::Open(_) => count + 1,
         Change::Close => count - 1,
     }
 }
@@ -102,7 +111,7 @@ fn innermost(sections: [Section; 65], count: usize) -> Innermost
     }
     let s = sections[count - 1];
     let sort = s.sort;
-    Innermost::Of(sort)
+    Innermost::Of(sort, s.line)
 }
 
 // What was kept comes again, else the tokenizer's next answer.
@@ -132,7 +141,10 @@ impl State {
             kept: Kept::Nothing,
             awaited: Awaited::Nothing,
             refused: false,
-            sections: [Section { sort: Sort::Unset }; 65],
+            sections: [Section {
+                sort: Sort::Unset,
+                line: 0,
+            }; 65],
             count: 1,
         }
     }

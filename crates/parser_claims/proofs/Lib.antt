@@ -6,3 +6,5 @@ pub mod Claimed
 pub mod Rests
 pub mod Given
 pub mod Ordered
+pub mod Opened
+pub mod Examples

@@ -28,6 +28,7 @@ use Rattle.tokenizer.specs.declared.state.State.{State as Tokenizer}
 use Rattle.tokenizer_claims.specs.Claims.{Text, TokenFits as ReadFits}
 use Rattle.tokenizer_claims.proofs.Answers.{Vouched}
 use Rattle.parser_rules.specs.Ruling.{
+  gives as giving,
   givesOn,
   refuses,
   noValue,
@@ -41,7 +42,7 @@ use Rattle.parser_rules.specs.Ruling.{
   onToken,
   rulingOf,
 }
-use Rattle.parser.specs.Lists.{Stand, innermost, sortsAfter, ruled}
+use Rattle.parser.specs.Lists.{Stand, innermost, stackAfter, ruled}
 use Rattle.parser_rules.specs.declared.ruling.Sort.{Sort}
 use Rattle.parser_rules.specs.declared.ruling.Sort.the-variants.{Map, List as Listed}
 use Rattle.parser_rules.specs.declared.ruling.Awaited.{Awaited}
@@ -51,6 +52,7 @@ use Rattle.parser_rules.specs.declared.ruling.Kept.the-variants as kept
 use Rattle.parser_rules.specs.declared.ruling.Change.{Change}
 use Rattle.parser_rules.specs.declared.ruling.Change.the-variants.{Keep, Fix, Open, Close}
 use Rattle.parser_rules.specs.declared.ruling.Ruling.{Ruling}
+use Rattle.parser.specs.declared.state.Section.{Section}
 use Rattle.parser_claims.specs.Claims.{TokenFits}
 use Rattle.parser_claims.proofs.Tokens.{Due, MultilineDue, room, Early, Turned, TokenTold, Told}
 
@@ -64,15 +66,15 @@ MultilineAwaited awaited.Nothing = ⊥
 MultilineAwaited (awaited.Value l) = ⊥
 MultilineAwaited (awaited.Multiline l) = Unit {0}
 
-abbrev pub stand : Awaited → List Sort → Stand
-stand a l = record { awaited = a; sorts = l }
+abbrev pub stand : Awaited → List Section → Stand
+stand a l = record { awaited = a; sections = l }
 
 -- What is due is awaited, and the parser has a section for the top level and for each one that the tokenizer has open.
 pub record Tied (d : List ℕ) (t : Tokenizer) (s : Stand) : Type 0 where
   pub value : Due d t → ValueAwaited (s .awaited)
   pub multiline : MultilineDue t → MultilineAwaited (s .awaited)
   pub early : Early t
-  pub sections : length (s .sorts) ≡ suc (t .depth)
+  pub sections : length (s .sections) ≡ suc (t .depth)
 
 -- What a parsing has left to spend: what is awaited may cost an answer of its own, NoValue or refusal 4.
 abbrev pub budget : List ℕ → Tokenizer → Awaited → ℕ
@@ -91,89 +93,89 @@ budget-lt d t u (awaited.Value l) h = omega arith
 budget-lt d t u (awaited.Multiline l) h = omega arith
 
 -- a ruling that keeps nothing, u being the tokenizer's state after it, where b may be spent
-pub data Settled (d : List ℕ) (u : Tokenizer) (sorts : List Sort) (b : ℕ) : Ruling → Type 0 where
-  gives : {x : Token} (a : Awaited) (c : Change) → TokenFits d x → Tied d u (stand a (sortsAfter c sorts)) → budget d u a < b
-      → Settled d u sorts b (givesOn x a c)
-  stops : (n : ℕ) {l : ℕ} {a : Awaited} → (1 ≤ n) × (n ≤ 7) → 0 < b → Settled d u sorts b (refuses n l a)
+pub data Settled (d : List ℕ) (u : Tokenizer) (sections : List Section) (b : ℕ) : Ruling → Type 0 where
+  gives : {x : Token} {o : ℕ} (a : Awaited) (c : Change) → TokenFits d x → Tied d u (stand a (stackAfter c sections)) → budget d u a < b
+      → Settled d u sections b (giving x o a c)
+  stops : (n : ℕ) {l : ℕ} {a : Awaited} → (1 ≤ n) × (n ≤ 7) → 0 < b → Settled d u sections b (refuses n l a)
 
 -- a ruling, and the one on what it kept
-pub data Outcome (d : List ℕ) (u : Tokenizer) (sorts : List Sort) (b : ℕ) : Ruling → Type 0 where
-  once : {r : Ruling} → Settled d u sorts b r → Outcome d u sorts b r
-  twice : {c l : ℕ} {x : Token} → Settled d u sorts c (settled (innermost sorts) x) → c < b → Outcome d u sorts b (noValue l (kept.Token x))
+pub data Outcome (d : List ℕ) (u : Tokenizer) (sections : List Section) (b : ℕ) : Ruling → Type 0 where
+  once : {r : Ruling} → Settled d u sections b r → Outcome d u sections b r
+  twice : {c l : ℕ} {x : Token} → Settled d u sections c (settled (innermost sections) x) → c < b → Outcome d u sections b (noValue l (kept.Token x))
 
 module _ (d : List ℕ) (t u : Tokenizer) where
-  tied : {A B : Type 0} {n k : ℕ} {a : Awaited} {l : List Sort} → Turned d t u A B n k → (A → ValueAwaited a) → (B → MultilineAwaited a)
+  tied : {A B : Type 0} {n k : ℕ} {a : Awaited} {l : List Section} → Turned d t u A B n k → (A → ValueAwaited a) → (B → MultilineAwaited a)
       → length l ≡ suc n → Tied d u (stand a l)
   tied w f g h = record { value = λ x. f (w .value x); multiline = λ x. g (w .multiline x); early = w .early; sections = omega arith }
 
   -- Outdent, and a key or item that n refuses, where nothing, or no longer a value, is awaited
   module _ (multiline : MultilineDue t → ⊥) where
-    on-outdent : (l : ℕ) (sorts : List Sort) → length sorts ≡ suc (t .depth) → TokenTold d t (Outdent l) u
-        → Settled d u sorts (room d t) (onOutdent (Outdent l) (innermost sorts))
+    on-outdent : (l : ℕ) (sections : List Section) → length sections ≡ suc (t .depth) → TokenTold d t (Outdent l) u
+        → Settled d u sections (room d t) (onOutdent (Outdent l) (innermost sections))
     unfolding onOutdent
     on-outdent l [] h w = absurd (omega arith)
-    on-outdent l (i ∷ sorts) h w = gives awaited.Nothing Close tt (tied (w .1) (λ x. x) multiline (omega arith)) (omega arith)
+    on-outdent l (i ∷ sections) h w = gives awaited.Nothing Close tt (tied (w .1) (λ x. x) multiline (omega arith)) (omega arith)
 
-    on-entry : (x : Token) (l : ℕ) (e : Sort) (n : ℕ) (sorts : List Sort) → (1 ≤ n) × (n ≤ 7) → length sorts ≡ suc (t .depth)
+    on-entry : (x : Token) (l : ℕ) (e : Sort) (n : ℕ) (sections : List Section) → (1 ≤ n) × (n ≤ 7) → length sections ≡ suc (t .depth)
         → TokenFits d x → Turned d t u (Unit {0}) (MultilineDue t) (t .depth) 2
-        → Settled d u sorts (room d t) (onEntry x l e n (innermost sorts))
+        → Settled d u sections (room d t) (onEntry x l e n (innermost sections))
     unfolding onEntry
     on-entry x l e n [] p h f w = absurd (omega arith)
-    on-entry x l e n (i ∷ sorts) p h f w =
-        on-cond (Settled d u (i ∷ sorts) (room d t)) (clashes i e)
+    on-entry x l e n (i ∷ sections) p h f w =
+        on-cond (Settled d u (i ∷ sections) (room d t)) (clashes (i .sort) e)
         (λ c. stops n p (omega arith))
         (λ c. gives (awaited.Value l) (Fix e) f (tied w (λ x. tt) multiline h) (omega arith))
 
-    on-item : (l : ℕ) (sorts : List Sort) → length sorts ≡ suc (t .depth) → TokenTold d t (ListItem l) u
-        → Settled d u sorts (room d t) (settled (innermost sorts) (ListItem l))
+    on-item : (l : ℕ) (sections : List Section) → length sections ≡ suc (t .depth) → TokenTold d t (ListItem l) u
+        → Settled d u sections (room d t) (settled (innermost sections) (ListItem l))
     unfolding settled
-    on-item l sorts h w = on-entry (ListItem l) l Listed 6 sorts (omega arith) h tt w
+    on-item l sections h w = on-entry (ListItem l) l Listed 6 sections (omega arith) h tt (w .1)
 
-    on-key : (l : ℕ) (p : Part) (sorts : List Sort) → length sorts ≡ suc (t .depth) → Text d p → TokenTold d t (MapKey l p) u
-        → Settled d u sorts (room d t) (settled (innermost sorts) (MapKey l p))
+    on-key : (l : ℕ) (p : Part) (sections : List Section) → length sections ≡ suc (t .depth) → Text d p → TokenTold d t (MapKey l p) u
+        → Settled d u sections (room d t) (settled (innermost sections) (MapKey l p))
     unfolding settled
-    on-key l p sorts h f w = on-entry (MapKey l p) l Map 5 sorts (omega arith) h f w
+    on-key l p sections h f w = on-entry (MapKey l p) l Map 5 sections (omega arith) h f (w .1)
 
-  module _ (sorts : List Sort) where
+  module _ (sections : List Section) where
     -- Newline and Comment pass
-    passes : (a : Awaited) (x : Token) → Tied d t (stand a sorts) → TokenFits d x → Turned d t u (Due d t) (MultilineDue t) (t .depth) 1
-        → Settled d u sorts (budget d t a) (givesOn x a Keep)
+    passes : (a : Awaited) (x : Token) → Tied d t (stand a sections) → TokenFits d x → Turned d t u (Due d t) (MultilineDue t) (t .depth) 1
+        → Settled d u sections (budget d t a) (givesOn x a Keep)
     passes a x s f w = gives a Keep f (tied w (s .value) (s .multiline) (s .sections)) (budget-lt d t u a (omega arith))
 
-    on-settled : (x : Token) → Tied d t (stand awaited.Nothing sorts) → ReadFits d x → TokenTold d t x u
-        → Settled d u sorts (room d t) (settled (innermost sorts) x)
+    on-settled : (x : Token) → Tied d t (stand awaited.Nothing sections) → ReadFits d x → TokenTold d t x u
+        → Settled d u sections (room d t) (settled (innermost sections) x)
     unfolding settled
     on-settled (Newline l) s f w = passes awaited.Nothing (Newline l) s f w
     on-settled (Comment l p) s f w = passes awaited.Nothing (Comment l p) s f w
     on-settled (Indent l) s f w = stops 7 (omega arith) (omega arith)
-    on-settled (Outdent l) s f w = on-outdent (s .multiline) l sorts (s .sections) w
-    on-settled (ListItem l) s f w = on-item (s .multiline) l sorts (s .sections) w
-    on-settled (MapKey l p) s f w = on-key (s .multiline) l p sorts (s .sections) f w
+    on-settled (Outdent l) s f w = on-outdent (s .multiline) l sections (s .sections) w
+    on-settled (ListItem l) s f w = on-item (s .multiline) l sections (s .sections) w
+    on-settled (MapKey l p) s f w = on-key (s .multiline) l p sections (s .sections) f w
     on-settled (Value l p) s f w = absurd (s .value (w .0))
     on-settled (MultilineHint l p) s f w = absurd (s .value (w .0))
     on-settled (MultilineValue l i p) s f w = absurd (s .multiline (w .0))
     on-settled (NoValue l) s f w = absurd w
 
-    after-entry : (n : ℕ) (x : Token) → Tied d t (stand (awaited.Value n) sorts) → ReadFits d x → TokenTold d t x u
-        → Outcome d u sorts (suc (room d t)) (afterEntry n false x)
+    after-entry : (n : ℕ) (x : Token) → Tied d t (stand (awaited.Value n) sections) → ReadFits d x → TokenTold d t x u
+        → Outcome d u sections (suc (room d t)) (afterEntry n false x)
     unfolding settled afterEntry onIndent
     after-entry n (Newline l) s f w = once (passes (awaited.Value n) (Newline l) s f w)
     after-entry n (Comment l p) s f w = once (passes (awaited.Value n) (Comment l p) s f w)
-    after-entry n (Indent l) s f w = once (gives awaited.Nothing Open tt (tied (w .1) (λ x. x) (λ x. x) (omega arith)) (omega arith))
-    after-entry n (Outdent l) s f w = twice (on-outdent (s .multiline) l sorts (s .sections) w) (omega arith)
-    after-entry n (ListItem l) s f w = twice (on-item (s .multiline) l sorts (s .sections) w) (omega arith)
-    after-entry n (MapKey l p) s f w = twice (on-key (s .multiline) l p sorts (s .sections) f w) (omega arith)
+    after-entry n (Indent l) s f w = once (gives awaited.Nothing (Open n) tt (tied (w .1) (λ x. x) (λ x. x) (omega arith)) (omega arith))
+    after-entry n (Outdent l) s f w = twice (on-outdent (s .multiline) l sections (s .sections) w) (omega arith)
+    after-entry n (ListItem l) s f w = twice (on-item (s .multiline) l sections (s .sections) w) (omega arith)
+    after-entry n (MapKey l p) s f w = twice (on-key (s .multiline) l p sections (s .sections) f w) (omega arith)
     after-entry n (Value l p) s f w = once (gives awaited.Nothing Keep f (tied (w .1) (λ x. x) (s .multiline) (s .sections)) (omega arith))
     after-entry n (MultilineHint l p) s f w =
         once (gives (awaited.Multiline n) Keep f (tied (w .1) (λ x. x) (λ x. x) (s .sections)) (omega arith))
     after-entry n (MultilineValue l i p) s f w = absurd (s .multiline (w .0))
     after-entry n (NoValue l) s f w = absurd w
 
-    refused : (n : ℕ) → Settled d u sorts (suc (room d t)) (refuses 4 n awaited.Nothing)
+    refused : (n : ℕ) → Settled d u sections (suc (room d t)) (refuses 4 n awaited.Nothing)
     refused n = stops 4 (omega arith) (omega arith)
 
-    after-hint : (n : ℕ) (x : Token) → Tied d t (stand (awaited.Multiline n) sorts) → ReadFits d x → TokenTold d t x u
-        → Settled d u sorts (suc (room d t)) (afterHint n x)
+    after-hint : (n : ℕ) (x : Token) → Tied d t (stand (awaited.Multiline n) sections) → ReadFits d x → TokenTold d t x u
+        → Settled d u sections (suc (room d t)) (afterHint n x)
     unfolding afterHint
     after-hint n (Newline l) s f w = passes (awaited.Multiline n) (Newline l) s f w
     after-hint n (Comment l p) s f w = passes (awaited.Multiline n) (Comment l p) s f w
@@ -186,18 +188,18 @@ module _ (d : List ℕ) (t u : Tokenizer) where
     after-hint n (MultilineValue l i p) s f w = gives awaited.Nothing Keep f (tied (w .1) (λ x. x) (λ x. x) (s .sections)) (omega arith)
     after-hint n (NoValue l) s f w = refused n
 
-    on-token : (a : Awaited) (x : Token) → Tied d t (stand a sorts) → ReadFits d x → TokenTold d t x u
-        → Outcome d u sorts (budget d t a) (onToken a (innermost sorts) false x)
+    on-token : (a : Awaited) (x : Token) → Tied d t (stand a sections) → ReadFits d x → TokenTold d t x u
+        → Outcome d u sections (budget d t a) (onToken a (innermost sections) false x)
     unfolding onToken
     on-token awaited.Nothing x s f w = once (on-settled x s f w)
     on-token (awaited.Value n) x s f w = after-entry n x s f w
     on-token (awaited.Multiline n) x s f w = once (after-hint n x s f w)
 
   pub outcome : (s : Stand) (c : Came) → isEnd c ≡ false → Tied d t s → Vouched d t c → Told d t c u
-      → Outcome d u (s .sorts) (budget d t (s .awaited)) (ruled s c)
+      → Outcome d u (s .sections) (budget d t (s .awaited)) (ruled s c)
   unfolding rulingOf isEnd
   outcome s came.End e w f v = absurd (true≢false e)
-  outcome s (came.Token x) e w f v = on-token (s .sorts) (s .awaited) x w f v
+  outcome s (came.Token x) e w f v = on-token (s .sections) (s .awaited) x w f v
   outcome s (came.Refused n l) e w f v = once (stops n (omega arith) (omega (arith, room-le d t (s .awaited))))
 
 -- Where a section may still open, the record is not full, so its guard is idle.

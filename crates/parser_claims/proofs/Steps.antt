@@ -16,11 +16,10 @@ use Rattle.tokenizer_claims.proofs.Sound.{Sound, sound-fit}
 use Rattle.tokenizer_claims.proofs.Claimed.{sound-kept, sound-vouches}
 use Rattle.parser_rules.specs.Ruling.{onToken, onEnd, rulingOf}
 use Rattle.parser.specs.Step.{fullOf, sectionsAfter, countAfter, afterVerdict, onRuling, stepWith, stepKept, stepOf}
-use Rattle.parser.specs.Lists.{isEnd, Parses, Stand, innermost, sortsAfter, Fed, fedOnce, fedBy, feed, parsed}
+use Rattle.parser.specs.Lists.{isEnd, Parses, Stand, innermost, stackAfter, Fed, fedOnce, fedBy, feed, parsed}
 use Rattle.parser.specs.Lists as lists
 use Rattle.parser_rules.specs.declared.ruling.Answer.{Answer}
 use Rattle.parser_rules.specs.declared.ruling.Answer.the-variants as answer
-use Rattle.parser_rules.specs.declared.ruling.Sort.{Sort}
 use Rattle.parser_rules.specs.declared.ruling.Awaited.{Awaited}
 use Rattle.parser_rules.specs.declared.ruling.Awaited.the-variants as awaited
 use Rattle.parser_rules.specs.declared.ruling.Kept.the-variants as kept
@@ -43,7 +42,7 @@ pub record Comes (d : List ℕ) (p : State) (l : List Answer) (b : ℕ) : Type 0
 fits-goes : (d : List ℕ) (a : Answer) → Fits d a → isEnd a ≡ false
 unfolding isEnd
 fits-goes d answer.End f = absurd f
-fits-goes d (answer.Token t) f = refl
+fits-goes d (answer.Token t o) f = refl
 fits-goes d (answer.Refused n l) f = refl
 
 -- End, and one answer before what comes next
@@ -71,7 +70,7 @@ parserAt t w a n = record { tokenizer = t; kept = kept.Nothing; awaited = w; ref
 -- wherever the parser stands, it says what it makes of the answers cs
 abbrev pub Goes : List ℕ → Tokenizer → List Came → Type 0
 Goes d t cs =
-    (s : Stand) (a : List Section) (n : ℕ) → Mirrors a n (s .sorts) → Tied d t s
+    (s : Stand) (a : List Section) (n : ℕ) → Mirrors a n (s .sections) → Tied d t s
     → Comes d (parserAt t (s .awaited) a n) (parsed s cs) (budget d t (s .awaited))
 
 module _ (d : List ℕ) (h : length d ≤ 16777216) where
@@ -85,20 +84,20 @@ module _ (d : List ℕ) (h : length d ≤ 16777216) where
 
   -- an answer of the tokenizer that is not its last: u is its state after it, and cs are the answers that follow
   module _ {u : Tokenizer} (cs : List Came) (o : Sound d u) (goes : Goes d u cs) where
-    on-settled : (s : Stand) (p : State) {b : ℕ} {r : Ruling} → Mirrors (p .sections) (p .count) (s .sorts) → Settled d u (s .sorts) b r
+    on-settled : (s : Stand) (p : State) {b : ℕ} {r : Ruling} → Mirrors (p .sections) (p .count) (s .sections) → Settled d u (s .sections) b r
         → stepOf d p ≡ onRuling r p u → Comes d p (going (fedOnce s r) cs) b
     unfolding afterVerdict
     on-settled s p m (gives a c f w z) e =
-        saying e f (goes (stand a (sortsAfter c (s .sorts))) _ _ (mirrors-after c m (omega (arith, w .sections, o .depth))) w) z
+        saying e f (goes (stand a (stackAfter c (s .sections))) _ _ (mirrors-after c m (omega (arith, w .sections, o .depth))) w) z
     on-settled s p m (stops n f z) e = saying e f (ending 0 (step-refused _ o refl)) z
 
-    on-outcome : (s : Stand) (p : State) {b : ℕ} {r : Ruling} → Mirrors (p .sections) (p .count) (s .sorts) → length (s .sorts) ≤ 65
-        → Outcome d u (s .sorts) b r → stepOf d p ≡ onRuling r p u → Comes d p (going (fedBy s r) cs) b
+    on-outcome : (s : Stand) (p : State) {b : ℕ} {r : Ruling} → Mirrors (p .sections) (p .count) (s .sections) → length (s .sections) ≤ 65
+        → Outcome d u (s .sections) b r → stepOf d p ≡ onRuling r p u → Comes d p (going (fedBy s r) cs) b
     unfolding rulingOf onToken afterVerdict sectionsAfter countAfter stepWith stepKept
     on-outcome s p m l (once (gives a c f w z)) e = on-settled s p m (gives a c f w z) e
     on-outcome s p m l (once (stops n f z)) e = on-settled s p m (stops n f z) e
     on-outcome s p m l (twice x z) e =
-        saying e tt (on-settled (stand awaited.Nothing (s .sorts)) _ m x (step-ruled _ o refl ∙ rw (shows-innermost (m .shows) l))) z
+        saying e tt (on-settled (stand awaited.Nothing (s .sections)) _ m x (step-ruled _ o refl ∙ rw (shows-innermost (m .shows) l))) z
 
   -- the end of the reading
   module _ (t : Tokenizer) (o : Sound d t) (e : tokenStep d t .answer ≡ came.End) (a : List Section) (n : ℕ) where
@@ -106,22 +105,22 @@ module _ (d : List ℕ) (h : length d ≤ 16777216) where
     unfolding rulingOf stepWith stepKept
     step-end w = step-ruled (parserAt t w a n) o refl ∙ rw e
 
-    on-end : (w : Awaited) (sorts : List Sort) → Comes d (parserAt t w a n) (parsed (stand w sorts) []) (budget d t w)
+    on-end : (w : Awaited) (sections : List Section) → Comes d (parserAt t w a n) (parsed (stand w sections) []) (budget d t w)
     unfolding onEnd rulingOf feed parsed afterVerdict stepWith stepKept
-    on-end awaited.Nothing sorts = ending _ (ap (λ x. x .answer) (step-end awaited.Nothing))
-    on-end (awaited.Value l) sorts =
+    on-end awaited.Nothing sections = ending _ (ap (λ x. x .answer) (step-end awaited.Nothing))
+    on-end (awaited.Value l) sections =
         saying (step-end (awaited.Value l)) tt (ending 0 (ap (λ x. x .answer) (step-ruled _ (sound-kept d h t o) refl))) (omega arith)
-    on-end (awaited.Multiline l) sorts =
+    on-end (awaited.Multiline l) sections =
         saying (step-end (awaited.Multiline l)) (omega arith) (ending 0 (step-refused _ (sound-kept d h t o) refl)) (omega arith)
 
   pub comes : {t v : Tokenizer} {cs : List Came} → Reads d t cs v → Sound d t → Goes d t cs
   unfolding feed parsed stepWith stepKept
-  comes (ends {s = t} e) o s a n m w = on-end t o e a n (s .awaited) (s .sorts)
+  comes (ends {s = t} e) o s a n m w = on-end t o e a n (s .awaited) (s .sections)
   comes (says {s = t} {t = u} {a = c} {as₁ = cs} q f r) o s a n m w =
       let next = rw q at (sound-kept d h t o) in
       let told = rw q at (step-told d t h o (w .early)) in
-      let l : length (s .sorts) ≤ 65 = omega (arith, w .sections, o .depth) in
+      let l : length (s .sections) ≤ 65 = omega (arith, w .sections, o .depth) in
       let space : t .depth < 64 → fullOf n ≡ false = λ z. lt-leb 65 n (omega (arith, w .sections, shows-count (m .shows))) in
-      let idle = guard-idle d t u (fullOf n) space (s .awaited) (innermost (s .sorts)) c told in
+      let idle = guard-idle d t u (fullOf n) space (s .awaited) (innermost (s .sections)) c told in
       on-outcome cs next (comes r next) s (parserAt t (s .awaited) a n) m l (outcome d t u s c f w (rw q at (sound-vouches d h t o)) told)
       (step-ruled (parserAt t (s .awaited) a n) o refl ∙ rw (q, shows-innermost (m .shows) l, idle))

@@ -1,7 +1,7 @@
 -- What each answer of the tokenizer tells the parser: which mark it needs, what its step leaves of the marks and the open
 -- sections, and what it spends. A Value or hint needs the value mark, which only a key or item sets, and a multiline value the
--- multiline mark, which only a hint sets; an Indent finds fewer than 64 sections open, an Outdent at least one. One walk through
--- the leaves of the plan shows it.
+-- multiline mark, which only a hint sets; an Indent finds fewer than 64 sections open, an Outdent at least one; a key or item has
+-- a line. One walk through the leaves of the plan shows it.
 use Prim.Native.Nat.{ℕ, suc, _+_, _*_, _-_, _≤_, _<_}
 use mathlib.Core.Path.{_≡_, refl, sym, ap, _∙_}
 use mathlib.Core.List.{List, [], _∷_}
@@ -79,8 +79,8 @@ TokenTold d t (Newline l) u = Turned d t u (Due d t) (MultilineDue t) (t .depth)
 TokenTold d t (Comment l p) u = Turned d t u (Due d t) (MultilineDue t) (t .depth) 1
 TokenTold d t (Indent l) u = (t .depth < 64) × Turned d t u ⊥ ⊥ (suc (t .depth)) 1
 TokenTold d t (Outdent l) u = (0 < t .depth) × Turned d t u ⊥ (MultilineDue t) (t .depth - 1) 1
-TokenTold d t (ListItem l) u = Turned d t u (Unit {0}) (MultilineDue t) (t .depth) 2
-TokenTold d t (MapKey l p) u = Turned d t u (Unit {0}) (MultilineDue t) (t .depth) 2
+TokenTold d t (ListItem l) u = (0 < l) × Turned d t u (Unit {0}) (MultilineDue t) (t .depth) 2
+TokenTold d t (MapKey l p) u = (0 < l) × Turned d t u (Unit {0}) (MultilineDue t) (t .depth) 2
 TokenTold d t (Value l p) u = Due d t × Turned d t u ⊥ (MultilineDue t) (t .depth) 0
 TokenTold d t (MultilineHint l p) u = Due d t × Turned d t u ⊥ (Unit {0}) (t .depth) 1
 TokenTold d t (MultilineValue l i p) u = MultilineDue t × Turned d t u ⊥ ⊥ (t .depth) 1
@@ -135,11 +135,11 @@ module _ (d : List ℕ) (t : State) where
   said-told f (Good p) u r h = h p refl
   said-told f Bad u r h = r
 
-  tells : Early t
+  tells : 0 < t .line → Early t
       → StepCases d t
       (λ p. Bounded (length (restOf d t)) (t .depth) p → Turn d t p → Told d t (answerAt d t (p .says)) (afterPlan t (indentAt d t) p))
   unfolding room weight afterPlan isEnd planNewline planComment planItem planKey planPlain planMultiline planOutdent linesOf
-  tells early =
+  tells line early =
       let rest = restOf d t in
       let indent = bytesOf d (indentAt d t) in
       let k = sizeOf (t .held) rest in
@@ -181,10 +181,10 @@ module _ (d : List ℕ) (t : State) where
               full = λ c i e u n h w. some;
               outdent = λ c i e h w.
                   (other-pos d (t .indents) (t .depth) _ e, unmarked (early i) (λ x. absurd (false≢true x)) refl (omega (arith, w .falls refl)));
-              item = λ c e v f h w. entered e refl refl (omega (arith, w .falls refl, ap count v));
+              item = λ c e v f h w. (line, entered e refl refl (omega (arith, w .falls refl, ap count v)));
               key = λ {n = m} c e v f h w.
                   said-told _ (checkedOf Blanks (take (textEnd 61 s) s)) (after (planKey m k s)) some
-                  (λ p q. entered e refl refl (omega (arith, w .falls (rw q), ap count v)));
+                  (λ p q. (line, entered e refl refl (omega (arith, w .falls (rw q), ap count v))));
               quotes = λ c e v f g h w. some;
               hint = λ {n = m} c e v f g h w.
                   let n = withValue false m in
@@ -201,4 +201,4 @@ module _ (d : List ℕ) (t : State) where
 
 pub step-told : (d : List ℕ) (t : State) → length d ≤ 16777216 → Sound d t → Early t → Told d t (stepOf d t .answer) (stepOf d t .state)
 unfolding stepRule stepWith
-step-told d t l o e = rw (step-sound d t l o) (step-cases d t _ (tells d t e) (step-bounded d t) (plan-turns d t o))
+step-told d t l o e = rw (step-sound d t l o) (step-cases d t _ (tells d t (o .first) e) (step-bounded d t) (plan-turns d t o))

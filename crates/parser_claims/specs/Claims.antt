@@ -35,7 +35,7 @@ TokenFits d t = PartsFit (Unit {0}) d t
 -- an answer of a parsing: a token whose parts lie within the document and are UTF-8, or a refusal 1 to 7
 abbrev pub Fits : List ℕ → Answer → Type 0
 Fits d answer.End = ⊥
-Fits d (answer.Token t) = TokenFits d t
+Fits d (answer.Token t o) = TokenFits d t
 Fits d (answer.Refused n l) = (invalidUtf8 ≤ n) × (n ≤ unexpectedIndent)
 
 abbrev pub All : (Answer → Type 0) → List Answer → Type 0

@@ -20,9 +20,12 @@ use Rattle.parser_rules.specs.declared.ruling.Change.the-variants.{Keep,
 use Rattle.parser_rules.specs.declared.ruling.Ruling.{Ruling}
 use Rattle.parser_rules.specs.declared.ruling.Ruling.the-variants.{Says}
 
--- the token is given on
+-- the token is given on with the line that it carries, or with none
+abbrev carrying : ℕ → Token → Awaited → Change → Ruling
+carrying o t a c = Says (record { answer = answer.Token t o; awaited = a; change = c; kept = kept.Nothing; refused = false })
+
 abbrev given : Token → Awaited → Change → Ruling
-given t a c = Says (record { answer = answer.Token t; awaited = a; change = c; kept = kept.Nothing; refused = false })
+given t a c = carrying 0 t a c
 
 -- the refusal is given, and is the last
 abbrev refused : ℕ → ℕ → Ruling
@@ -34,44 +37,44 @@ unfolding onEntry onOutdent onIndent settled afterEntry afterHint onToken onEnd 
 on a i t = rulingOf a i false (came.Token t)
 
 -- `a` LF `  = "x"` LF, answer by answer
-key : on awaited.Nothing (Of Unset) (MapKey 1 (part 0 1)) ≡ given (MapKey 1 (part 0 1)) (awaited.Value 1) (Fix Map)
+key : on awaited.Nothing (Of Unset 0) (MapKey 1 (part 0 1)) ≡ given (MapKey 1 (part 0 1)) (awaited.Value 1) (Fix Map)
 unfolding on
 key = refl
 
-newline : on (awaited.Value 1) (Of Map) (Newline 1) ≡ given (Newline 1) (awaited.Value 1) Keep
+newline : on (awaited.Value 1) (Of Map 0) (Newline 1) ≡ given (Newline 1) (awaited.Value 1) Keep
 unfolding on
 newline = refl
 
-indent : on (awaited.Value 1) (Of Map) (Indent 2) ≡ given (Indent 2) awaited.Nothing Open
+indent : on (awaited.Value 1) (Of Map 0) (Indent 2) ≡ given (Indent 2) awaited.Nothing (Open 1)
 unfolding on
 indent = refl
 
-item : on awaited.Nothing (Of Unset) (ListItem 2) ≡ given (ListItem 2) (awaited.Value 2) (Fix List)
+item : on awaited.Nothing (Of Unset 1) (ListItem 2) ≡ given (ListItem 2) (awaited.Value 2) (Fix List)
 unfolding on
 item = refl
 
-value : on (awaited.Value 2) (Of List) (Value 2 (part 6 9)) ≡ given (Value 2 (part 6 9)) awaited.Nothing Keep
+value : on (awaited.Value 2) (Of List 1) (Value 2 (part 6 9)) ≡ given (Value 2 (part 6 9)) awaited.Nothing Keep
 unfolding on
 value = refl
 
-outdent : on awaited.Nothing (Of List) (Outdent 3) ≡ given (Outdent 3) awaited.Nothing Close
+outdent : on awaited.Nothing (Of List 1) (Outdent 3) ≡ carrying 1 (Outdent 3) awaited.Nothing Close
 unfolding on
 outdent = refl
 
 -- one space then `a`: refusal 7 on line 1
-space : on awaited.Nothing (Of Unset) (Indent 1) ≡ refused 7 1
+space : on awaited.Nothing (Of Unset 0) (Indent 1) ≡ refused 7 1
 unfolding on
 space = refl
 
 -- a key among items is 5, an item among keys 6, and after a hint a key is 4 on the line of the hint's key
-key-among-items : on awaited.Nothing (Of List) (MapKey 3 (part 8 9)) ≡ refused 5 3
+key-among-items : on awaited.Nothing (Of List 0) (MapKey 3 (part 8 9)) ≡ refused 5 3
 unfolding on
 key-among-items = refl
 
-item-among-keys : on awaited.Nothing (Of Map) (ListItem 2) ≡ refused 6 2
+item-among-keys : on awaited.Nothing (Of Map 0) (ListItem 2) ≡ refused 6 2
 unfolding on
 item-among-keys = refl
 
-key-after-hint : on (awaited.Multiline 1) (Of Map) (MapKey 2 (part 8 9)) ≡ refused 4 1
+key-after-hint : on (awaited.Multiline 1) (Of Map 0) (MapKey 2 (part 8 9)) ≡ refused 4 1
 unfolding on
 key-after-hint = refl

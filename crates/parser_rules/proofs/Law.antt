@@ -15,14 +15,14 @@ use Rattle.parser_rules.specs.declared.ruling.Awaited.{Awaited}
 use Rattle.parser_rules.specs.declared.ruling.Awaited.the-variants as awaited
 use Rattle.parser_rules.specs.declared.ruling.Innermost.{Innermost}
 use Rattle.parser_rules.specs.declared.ruling.Innermost.the-variants.{Missing, Of}
-use Rattle.parser_rules.specs.Judging.{sortNumber, awaitedNumber, outdentBy, itemBy, keyBy, settledBy, afterEntryBy, afterHintBy, judgedBy, madeBy, rulingBy}
+use Rattle.parser_rules.specs.Judging.{sortNumber, openedLine, awaitedNumber, outdentBy, itemBy, keyBy, settledBy, afterEntryBy, afterHintBy, judgedBy, madeBy, rulingBy}
 
 past : (n : ℕ) → leb 256 (256 + n) ≡ true
 past n = le-leb 256 (256 + n) (omega arith)
 
 -- what is judged of c stands for the ruling of c
 abbrev Stands : Awaited → Innermost → Bool → Came → Type 0
-Stands a i full c = rulingOf a i full c ≡ rulingBy (judgedBy (valuesOf c .number) (awaitedNumber a) (sortNumber i) full) a c
+Stands a i full c = rulingOf a i full c ≡ rulingBy (judgedBy (valuesOf c .number) (awaitedNumber a) (sortNumber i) full) a (openedLine i) c
 
 at-rest : (i : Innermost) (full : Bool) (c : Came) → Stands awaited.Nothing i full c
 unfolding rulingOf onEnd onToken settled afterEntry afterHint onEntry onOutdent onIndent valuesOf tokenValues lineOf judgedBy settledBy afterEntryBy afterHintBy outdentBy itemBy keyBy madeBy
@@ -31,17 +31,17 @@ at-rest i full (came.Token (token.Newline l)) = refl
 at-rest i full (came.Token (token.Comment l p)) = refl
 at-rest i full (came.Token (token.Indent l)) = refl
 at-rest Missing full (came.Token (token.Outdent l)) = refl
-at-rest (Of sort.Unset) full (came.Token (token.Outdent l)) = refl
-at-rest (Of sort.Map) full (came.Token (token.Outdent l)) = refl
-at-rest (Of sort.List) full (came.Token (token.Outdent l)) = refl
+at-rest (Of sort.Unset o) full (came.Token (token.Outdent l)) = refl
+at-rest (Of sort.Map o) full (came.Token (token.Outdent l)) = refl
+at-rest (Of sort.List o) full (came.Token (token.Outdent l)) = refl
 at-rest Missing full (came.Token (token.ListItem l)) = refl
-at-rest (Of sort.Unset) full (came.Token (token.ListItem l)) = refl
-at-rest (Of sort.Map) full (came.Token (token.ListItem l)) = refl
-at-rest (Of sort.List) full (came.Token (token.ListItem l)) = refl
+at-rest (Of sort.Unset o) full (came.Token (token.ListItem l)) = refl
+at-rest (Of sort.Map o) full (came.Token (token.ListItem l)) = refl
+at-rest (Of sort.List o) full (came.Token (token.ListItem l)) = refl
 at-rest Missing full (came.Token (token.MapKey l p)) = refl
-at-rest (Of sort.Unset) full (came.Token (token.MapKey l p)) = refl
-at-rest (Of sort.Map) full (came.Token (token.MapKey l p)) = refl
-at-rest (Of sort.List) full (came.Token (token.MapKey l p)) = refl
+at-rest (Of sort.Unset o) full (came.Token (token.MapKey l p)) = refl
+at-rest (Of sort.Map o) full (came.Token (token.MapKey l p)) = refl
+at-rest (Of sort.List o) full (came.Token (token.MapKey l p)) = refl
 at-rest i full (came.Token (token.Value l p)) = refl
 at-rest i full (came.Token (token.MultilineHint l p)) = refl
 at-rest i full (came.Token (token.MultilineValue l q p)) = refl

@@ -9,7 +9,7 @@ use Rattle.tokenizer.specs.declared.token.Token.the-variants as token
 use Rattle.tokenizer.specs.declared.token.Token.{Token}
 use Rattle.tokenizer.specs.declared.state.Answer.{Answer as Came}
 use Rattle.tokenizer.specs.declared.state.Answer.the-variants as came
-use Rattle.parser_rules.specs.Ruling.{givesOn, refuses, noValue}
+use Rattle.parser_rules.specs.Ruling.{gives, givesOn, refuses, noValue}
 use Rattle.parser_rules.specs.declared.ruling.Sort.{Sort}
 use Rattle.parser_rules.specs.declared.ruling.Sort.the-variants as sort
 use Rattle.parser_rules.specs.declared.ruling.Awaited.{Awaited}
@@ -27,9 +27,14 @@ use Rattle.parser_rules.specs.declared.judging.Judged.the-variants.{Give
 -- by the innermost section's sort: 0 unset, 1 map, 2 list, 3 missing
 abbrev pub sortNumber : Innermost → ℕ
 sortNumber Missing = 3
-sortNumber (Of sort.Unset) = 0
-sortNumber (Of sort.Map) = 1
-sortNumber (Of sort.List) = 2
+sortNumber (Of sort.Unset o) = 0
+sortNumber (Of sort.Map o) = 1
+sortNumber (Of sort.List o) = 2
+
+-- the line of the key or item that opened it
+abbrev pub openedLine : Innermost → ℕ
+openedLine Missing = 0
+openedLine (Of s o) = o
 
 abbrev pub awaitedNumber : Awaited → ℕ
 awaitedNumber awaited.Nothing = 0
@@ -65,24 +70,25 @@ afterHintBy n = cond (eqb n 1) GivesOn (cond (eqb n 2) GivesOn (cond (eqb n 9) V
 unfoldable pub judgedBy : ℕ → ℕ → ℕ → Bool → Judged
 judgedBy n a s full = cond (leb (refusalNumber 0) n) Passes (cond (eqb a 1) (afterEntryBy n full) (cond (eqb a 2) (afterHintBy n) (settledBy n s)))
 
--- the ruling that is meant, a being what was awaited, t the token that came and k what is kept of it
-unfoldable pub madeBy : Judged → Awaited → Token → Kept → Ruling
-madeBy GivesOn a t k = givesOn t a change.Keep
-madeBy NoValue a t k = noValue (awaitedLine a) k
-madeBy Opens a t k = givesOn t awaited.Nothing change.Open
-madeBy Closes a t k = givesOn t awaited.Nothing change.Close
-madeBy Map a t k = givesOn t (awaited.Value (lineOf t)) (change.Fix sort.Map)
-madeBy Listed a t k = givesOn t (awaited.Value (lineOf t)) (change.Fix sort.List)
-madeBy Hint a t k = givesOn t (awaited.Multiline (awaitedLine a)) change.Keep
-madeBy Value a t k = givesOn t awaited.Nothing change.Keep
-madeBy Passes a t k = ruling.End
-madeBy (Refuses n) a t k = refuses n (lineOf t) awaited.Nothing
-madeBy RefusesEntry a t k = refuses missingMultiline (awaitedLine a) awaited.Nothing
-madeBy End a t k = ruling.End
-madeBy Unfit a t k = ruling.Unfit
+-- the ruling that is meant, a being what was awaited, o the innermost section's line, t the token that came and k what is
+-- kept of it
+unfoldable pub madeBy : Judged → Awaited → ℕ → Token → Kept → Ruling
+madeBy GivesOn a o t k = givesOn t a change.Keep
+madeBy NoValue a o t k = noValue (awaitedLine a) k
+madeBy Opens a o t k = givesOn t awaited.Nothing (change.Open (awaitedLine a))
+madeBy Closes a o t k = gives t o awaited.Nothing change.Close
+madeBy Map a o t k = givesOn t (awaited.Value (lineOf t)) (change.Fix sort.Map)
+madeBy Listed a o t k = givesOn t (awaited.Value (lineOf t)) (change.Fix sort.List)
+madeBy Hint a o t k = givesOn t (awaited.Multiline (awaitedLine a)) change.Keep
+madeBy Value a o t k = givesOn t awaited.Nothing change.Keep
+madeBy Passes a o t k = ruling.End
+madeBy (Refuses n) a o t k = refuses n (lineOf t) awaited.Nothing
+madeBy RefusesEntry a o t k = refuses missingMultiline (awaitedLine a) awaited.Nothing
+madeBy End a o t k = ruling.End
+madeBy Unfit a o t k = ruling.Unfit
 
 -- of what came: a refusal is given on
-abbrev pub rulingBy : Judged → Awaited → Came → Ruling
-rulingBy v a came.End = madeBy v a (token.NoValue 0) kept.End
-rulingBy v a (came.Token t) = madeBy v a t (kept.Token t)
-rulingBy v a (came.Refused n l) = refuses n l a
+abbrev pub rulingBy : Judged → Awaited → ℕ → Came → Ruling
+rulingBy v a o came.End = madeBy v a o (token.NoValue 0) kept.End
+rulingBy v a o (came.Token t) = madeBy v a o t (kept.Token t)
+rulingBy v a o (came.Refused n l) = refuses n l a

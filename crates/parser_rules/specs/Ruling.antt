@@ -1,5 +1,5 @@
--- Law: document 01, 'Parser': what the parser makes of one answer of the tokenizer, as a ruling that knows neither the
--- document nor the record of sections.
+-- Law: document 01, 'Parser', and document 02, request 5, the line that an Outdent carries: what the parser makes of one
+-- answer of the tokenizer, as a ruling that knows neither the document nor the record of sections.
 use Prim.Native.Nat.{ℕ}
 use mathlib.Core.Bool.{Bool, true, false, cond}
 use Rattle.text.specs.Numbers.{missingMultiline, unexpectedKey, unexpectedItem, unexpectedIndent}
@@ -35,15 +35,31 @@ use Rattle.parser_rules.specs.declared.ruling.Verdict.{Verdict}
 use Rattle.parser_rules.specs.declared.ruling.Ruling.{Ruling}
 use Rattle.parser_rules.specs.declared.ruling.Ruling.the-variants.{Says, End, Unfit}
 
+-- values with the line that the parser adds
+abbrev pub opening : ℕ → Values → Values
+opening o v = record {
+  number = v .number;
+  line = v .line;
+  start = v .start;
+  end = v .end;
+  from = v .from;
+  to = v .to;
+  opened = o;
+}
+
 -- an answer's number and values: 0 for End, a token's kind, 256 and the number for a refusal
 unfoldable pub valuesOf : Answer → Values
 valuesOf answer.End = bare 0 0
-valuesOf (answer.Token t) = tokenValues t
+valuesOf (answer.Token t o) = opening o (tokenValues t)
 valuesOf (answer.Refused n l) = bare (refusalNumber n) l
 
--- the token is given on
+-- the token is given on, with the line that it carries
+abbrev pub gives : Token → ℕ → Awaited → Change → Ruling
+gives t o a c = Says (record { answer = answer.Token t o; awaited = a; change = c; kept = kept.Nothing; refused = false })
+
+-- it carries none
 abbrev pub givesOn : Token → Awaited → Change → Ruling
-givesOn t a c = Says (record { answer = answer.Token t; awaited = a; change = c; kept = kept.Nothing; refused = false })
+givesOn t a c = gives t 0 a c
 
 -- a refusal, after which calls give End; the sections stay, and nothing is kept
 abbrev pub refuses : ℕ → ℕ → Awaited → Ruling
@@ -51,7 +67,7 @@ refuses n l a = Says (record { answer = answer.Refused n l; awaited = a; change 
 
 -- NoValue with the key's or item's line; what came is kept for the next call
 abbrev pub noValue : ℕ → Kept → Ruling
-noValue l k = Says (record { answer = answer.Token (NoValue l); awaited = awaited.Nothing; change = Keep; kept = k; refused = false })
+noValue l k = Says (record { answer = answer.Token (NoValue l) 0; awaited = awaited.Nothing; change = Keep; kept = k; refused = false })
 
 -- whether a section of the first sort has no room for an entry of the second: the first key or item fixes it
 abbrev pub clashes : Sort → Sort → Bool
@@ -66,16 +82,16 @@ clashes List List = false
 -- the first key or item fixes its section's sort, and the other is refused by number n
 unfoldable pub onEntry : Token → ℕ → Sort → ℕ → Innermost → Ruling
 onEntry t l s n Missing = Unfit
-onEntry t l s n (Of i) = cond (clashes i s) (refuses n l awaited.Nothing) (givesOn t (awaited.Value l) (Fix s))
+onEntry t l s n (Of i o) = cond (clashes i s) (refuses n l awaited.Nothing) (givesOn t (awaited.Value l) (Fix s))
 
--- Outdent closes
+-- Outdent closes, and carries the line of the key or item that opened the section
 unfoldable pub onOutdent : Token → Innermost → Ruling
 onOutdent t Missing = Unfit
-onOutdent t (Of i) = givesOn t awaited.Nothing Close
+onOutdent t (Of i o) = gives t o awaited.Nothing Close
 
--- an Indent after a key or item opens a section of no sort yet
-unfoldable pub onIndent : Token → Bool → Ruling
-onIndent t full = cond full Unfit (givesOn t awaited.Nothing Open)
+-- an Indent after a key or item of line n opens a section of no sort yet, whose record keeps n
+unfoldable pub onIndent : Token → ℕ → Bool → Ruling
+onIndent t n full = cond full Unfit (givesOn t awaited.Nothing (Open n))
 
 -- Nothing is awaited: Newline and Comment pass, Indent is 7, a key is 5 or an item 6 where the section is of the other sort; a
 -- Value, hint or multiline value is unfit
@@ -95,7 +111,7 @@ settled i (NoValue l) = Unfit
 unfoldable pub afterEntry : ℕ → Bool → Token → Ruling
 afterEntry n full (Newline l) = givesOn (Newline l) (awaited.Value n) Keep
 afterEntry n full (Comment l p) = givesOn (Comment l p) (awaited.Value n) Keep
-afterEntry n full (Indent l) = onIndent (Indent l) full
+afterEntry n full (Indent l) = onIndent (Indent l) n full
 afterEntry n full (Outdent l) = noValue n (kept.Token (Outdent l))
 afterEntry n full (ListItem l) = noValue n (kept.Token (ListItem l))
 afterEntry n full (MapKey l p) = noValue n (kept.Token (MapKey l p))

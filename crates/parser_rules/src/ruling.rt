@@ -5,13 +5,14 @@ use crate::judging::judge;
 use tokenizer::Token;
 ghost use mathlib.Core.Path.{_≡_};
 ghost use Rattle.tokenizer.specs.Token.{tokenValues};
-ghost use Rattle.parser_rules.specs.Ruling.{givesOn, refuses, noValue, rulingOf};
-ghost use Rattle.parser_rules.specs.Judging.{sortNumber, awaitedNumber, awaitedLine, madeBy};
+ghost use Rattle.parser_rules.specs.Ruling.{gives, refuses, noValue, rulingOf};
+ghost use Rattle.parser_rules.specs.Judging.{sortNumber, openedLine, awaitedNumber, awaitedLine, madeBy};
 
-// The parser's own answer: a token, or a refusal with its number and line.
+// The parser's own answer: a token, with the line of the key or item whose section an Outdent closes, 0 for every other kind; or
+// a refusal with its number and line.
 pub enum Answer {
     End,
-    Token(Token),
+    Token(Token, usize),
     Refused(usize, usize),
 }
 
@@ -36,17 +37,18 @@ pub enum Kept {
     Token(Token),
 }
 
-// The sort of the innermost section; missing where the record of sections is empty.
+// The sort of the innermost section, and the line of the key or item that opened it; missing where the record of sections is empty.
 pub enum Innermost {
     Missing,
-    Of(Sort),
+    Of(Sort, usize),
 }
 
-// What becomes of the record of sections: nothing, the innermost one's sort is fixed, one opens, the innermost closes.
+// What becomes of the record of sections: nothing, the innermost one's sort is fixed, one opens for the key or item of that line,
+// the innermost closes.
 pub enum Change {
     Keep,
     Fix(Sort),
-    Open,
+    Open(usize),
     Close,
 }
 
@@ -66,12 +68,12 @@ pub enum Ruling {
     Unfit,
 }
 
-// The token is given on.
-fn gives_on(t: Token, awaited: Awaited, change: Change) -> Ruling
-    ensures { λ r. ⌜ r ≡ givesOn t awaited change ⌝ }
+// The token is given on, with the line that it carries.
+fn gives(t: Token, opened: usize, awaited: Awaited, change: Change) -> Ruling
+    ensures { λ r. ⌜ r ≡ gives t opened awaited change ⌝ }
 {
     Ruling::Says(Verdict {
-        answer: Answer::Token(t),
+        answer: Answer::Token(t, opened),
         awaited,
         change,
         kept: Kept::Nothing,
@@ -97,7 +99,7 @@ fn no_value(line: usize, kept: Kept) -> Ruling
     ensures { λ r. ⌜ r ≡ noValue line kept ⌝ }
 {
     Ruling::Says(Verdict {
-        answer: Answer::Token(Token::NoValue(line)),
+        answer: Answer::Token(Token::NoValue(line), 0),
         awaited: Awaited::Nothing,
         change: Change::Keep,
         kept,
@@ -128,13 +130,22 @@ fn sort_number(innermost: Innermost) -> usize
 {
     match innermost {
         Innermost::Missing => 3,
-        Innermost::Of(s) => {
+        Innermost::Of(s, _) => {
             match s {
                 Sort::Unset => 0,
                 Sort::Map => 1,
                 Sort::List => 2,
             }
         }
+    }
+}
+
+fn opened_line(innermost: Innermost) -> usize
+    ensures { λ r. ⌜ r ≡ openedLine innermost ⌝ }
+{
+    match innermost {
+        Innermost::Missing => 0,
+        Innermost::Of(_, line) => line,
     }
 }
 
@@ -158,21 +169,21 @@ fn awaited_line(awaited: Awaited) -> usize
     }
 }
 
-// The ruling on a token, and on what would be kept of it.
-fn made(v: Judged, awaited: Awaited, t: Token, kept: Kept) -> Ruling
-    ensures { λ r. ⌜ r ≡ madeBy v awaited t kept ⌝ }
+// The ruling on a token, and on what would be kept of it; opened is the innermost section's line.
+fn made(v: Judged, awaited: Awaited, opened: usize, t: Token, kept: Kept) -> Ruling
+    ensures { λ r. ⌜ r ≡ madeBy v awaited opened t kept ⌝ }
 {
     let line = t.line_number();
     let entry = awaited_line(awaited);
     match v {
-        Judged::GivesOn => gives_on(t, awaited, Change::Keep),
+        Judged::GivesOn => gives(t, 0, awaited, Change::Keep),
         Judged::NoValue => no_value(entry, kept),
-        Judged::Opens => gives_on(t, Awaited::Nothing, Change::Open),
-        Judged::Closes => gives_on(t, Awaited::Nothing, Change::Close),
-        Judged::Map => gives_on(t, Awaited::Value(line), Change::Fix(Sort::Map)),
-        Judged::List => gives_on(t, Awaited::Value(line), Change::Fix(Sort::List)),
-        Judged::Hint => gives_on(t, Awaited::Multiline(entry), Change::Keep),
-        Judged::Value => gives_on(t, Awaited::Nothing, Change::Keep),
+        Judged::Opens => gives(t, 0, Awaited::Nothing, Change::Open(entry)),
+        Judged::Closes => gives(t, opened, Awaited::Nothing, Change::Close),
+        Judged::Map => gives(t, 0, Awaited::Value(line), Change::Fix(Sort::Map)),
+        Judged::List => gives(t, 0, Awaited::Value(line), Change::Fix(Sort::List)),
+        Judged::Hint => gives(t, 0, Awaited::Multiline(entry), Change::Keep),
+        Judged::Value => gives(t, 0, Awaited::Nothing, Change::Keep),
         Judged::Passes => Ruling::End,
         Judged::Refuses(n) => refuse(n, line, Awaited::Nothing),
         Judged::RefusesEntry => refuse(4, entry, Awaited::Nothing),
@@ -187,14 +198,15 @@ pub fn rule(awaited: Awaited, innermost: Innermost, full: bool, came: tokenizer:
 {
     let a = awaited_number(awaited);
     let s = sort_number(innermost);
+    let opened = opened_line(innermost);
     match came {
         tokenizer::Answer::End => {
             let v = judge(0, a, s, full);
-            made(v, awaited, Token::NoValue(0), Kept::End)
+            made(v, awaited, opened, Token::NoValue(0), Kept::End)
         }
         tokenizer::Answer::Token(t) => {
             let v = judge(kind(t), a, s, full);
-            made(v, awaited, t, Kept::Token(t))
+            made(v, awaited, opened, t, Kept::Token(t))
         }
         tokenizer::Answer::Refused(number, line) => refuse(number, line, awaited),
     }

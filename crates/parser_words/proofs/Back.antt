@@ -23,7 +23,7 @@ use Rattle.parser_rules.specs.declared.ruling.Kept.the-variants as kept
 use Rattle.parser.specs.declared.state.Section.{Section}
 use Rattle.parser.specs.declared.state.State.{State}
 use Rattle.tokenizer_words.specs.Words.{flag, wordsOf, stateIn}
-use Rattle.parser_words.specs.ParserWords.{sortWord, sortWords, awaitedWords, keptWords, middleWords, parserWords, sortIn, sectionsIn, awaitedIn, keptIn, parserIn}
+use Rattle.parser_words.specs.ParserWords.{sortWord, sectionWords, awaitedWords, keptWords, middleWords, parserWords, sortIn, sectionsIn, awaitedIn, keptIn, parserIn}
 
 pub not-0 : (t : Token) → eqb (tokenValues t .number) 0 ≡ false
 not-0 t = ne-eqb (tokenValues t .number) 0 (λ e. let k = kinds t .0 in omega arith)
@@ -43,12 +43,12 @@ sort-back sort.Unset = refl
 sort-back sort.Map = refl
 sort-back sort.List = refl
 
-pub sections-back : (l : List Section) (r : List ℕ) (n : ℕ) → length l ≡ n → sectionsIn n (sortWords l ++ r) ≡ l
-unfolding sectionsIn sortWords
+pub sections-back : (l : List Section) (r : List ℕ) (n : ℕ) → length l ≡ n → sectionsIn n (sectionWords l ++ r) ≡ l
+unfolding sectionsIn sectionWords
 sections-back [] r zero e = refl
 sections-back [] r (suc n) e = absurd (omega arith)
 sections-back (s ∷ l) r zero e = absurd (omega arith)
-sections-back (s ∷ l) r (suc n) e = λ j. record { sort = sort-back (s .sort) j } ∷ sections-back l r n (omega arith) j
+sections-back (s ∷ l) r (suc n) e = λ j. record { sort = sort-back (s .sort) j; line = s .line } ∷ sections-back l r n (omega arith) j
 
 awaited-back : (a : Awaited) → awaitedIn (getD (awaitedWords a) 0 0) (getD (awaitedWords a) 1 0) ≡ a
 unfolding awaitedIn awaitedWords
@@ -97,18 +97,18 @@ middle-then s x = ap (λ y. flag (s .refused) ∷ y)
 
 module _ (s : State) (r : List ℕ) (e : length (s .tokenizer .indents) ≡ 64) where
   -- the words of a state, and others behind them
-  pub all-words : parserWords s ++ r ≡ wordsOf (s .tokenizer) ++ (middleWords s ++ (sortWords (s .sections) ++ r))
+  pub all-words : parserWords s ++ r ≡ wordsOf (s .tokenizer) ++ (middleWords s ++ (sectionWords (s .sections) ++ r))
   unfolding parserWords
   all-words =
-      append-assoc (wordsOf (s .tokenizer) ++ middleWords s) (sortWords (s .sections)) r
-      ∙ append-assoc (wordsOf (s .tokenizer)) (middleWords s) (sortWords (s .sections) ++ r)
+      append-assoc (wordsOf (s .tokenizer) ++ middleWords s) (sectionWords (s .sections)) r
+      ∙ append-assoc (wordsOf (s .tokenizer)) (middleWords s) (sectionWords (s .sections) ++ r)
 
-  pub behind-137 : drop 137 (parserWords s ++ r) ≡ middleWords s ++ (sortWords (s .sections) ++ r)
-  behind-137 = ap (drop 137) all-words ∙ drop-at (wordsOf (s .tokenizer)) (middleWords s ++ (sortWords (s .sections) ++ r)) 137 (words-137 (s .tokenizer) e)
+  pub behind-137 : drop 137 (parserWords s ++ r) ≡ middleWords s ++ (sectionWords (s .sections) ++ r)
+  behind-137 = ap (drop 137) all-words ∙ drop-at (wordsOf (s .tokenizer)) (middleWords s ++ (sectionWords (s .sections) ++ r)) 137 (words-137 (s .tokenizer) e)
 
   tail : drop 137 (parserWords s ++ r)
-      ≡ flag (s .refused) ∷ getD (awaitedWords (s .awaited)) 0 0 ∷ getD (awaitedWords (s .awaited)) 1 0 ∷ (keptWords (s .kept) ++ (s .count ∷ (sortWords (s .sections) ++ r)))
-  tail = behind-137 ∙ middle-then s (sortWords (s .sections) ++ r)
+      ≡ flag (s .refused) ∷ getD (awaitedWords (s .awaited)) 0 0 ∷ getD (awaitedWords (s .awaited)) 1 0 ∷ (keptWords (s .kept) ++ (s .count ∷ (sectionWords (s .sections) ++ r)))
+  tail = behind-137 ∙ middle-then s (sectionWords (s .sections) ++ r)
 
   pub refused-word : getD (parserWords s ++ r) 137 0 ≡ flag (s .refused)
   refused-word = sym (getD-drop 137 (parserWords s ++ r) 0 0) ∙ ap (λ x. getD x 0 0) tail
@@ -125,14 +125,14 @@ module _ (s : State) (r : List ℕ) (e : length (s .tokenizer .indents) ≡ 64) 
   pub line-at : getD (parserWords s ++ r) 139 0 ≡ awaitedLine (s .awaited)
   line-at = line-word ∙ awaited-line (s .awaited)
 
-  pub kept-at : drop 140 (parserWords s ++ r) ≡ keptWords (s .kept) ++ (s .count ∷ (sortWords (s .sections) ++ r))
+  pub kept-at : drop 140 (parserWords s ++ r) ≡ keptWords (s .kept) ++ (s .count ∷ (sectionWords (s .sections) ++ r))
   kept-at = sym (drop-drop 3 137 (parserWords s ++ r)) ∙ ap (drop 3) tail
 
   pub count-word : getD (parserWords s ++ r) 147 0 ≡ s .count
   count-word = sym (getD-drop 140 (parserWords s ++ r) 7 0) ∙ ap (λ x. getD x 7 0) kept-at ∙ count-at (s .kept) (s .count) _
 
-  pub sorts-at : drop 148 (parserWords s ++ r) ≡ sortWords (s .sections) ++ r
-  sorts-at = sym (drop-drop 8 140 (parserWords s ++ r)) ∙ ap (drop 8) kept-at ∙ past-8 (s .kept) (s .count) _
+  pub sections-at : drop 148 (parserWords s ++ r) ≡ sectionWords (s .sections) ++ r
+  sections-at = sym (drop-drop 8 140 (parserWords s ++ r)) ∙ ap (drop 8) kept-at ∙ past-8 (s .kept) (s .count) _
 
   -- the state is read back
   pub parser-back : length (s .sections) ≡ 65 → parserIn (parserWords s ++ r) ≡ s
@@ -143,5 +143,5 @@ module _ (s : State) (r : List ℕ) (e : length (s .tokenizer .indents) ≡ 64) 
       let a : awaitedIn (getD (parserWords s ++ r) 138 0) (getD (parserWords s ++ r) 139 0) ≡ s .awaited =
       (λ j. awaitedIn (number-word j) (line-word j)) ∙ awaited-back (s .awaited) in
       let b : eqb (getD (parserWords s ++ r) 137 0) 1 ≡ s .refused = ap (λ x. eqb x 1) refused-word ∙ eqb-flag (s .refused) in
-      let l : sectionsIn 65 (drop 148 (parserWords s ++ r)) ≡ s .sections = ap (sectionsIn 65) sorts-at ∙ sections-back (s .sections) r 65 f in
+      let l : sectionsIn 65 (drop 148 (parserWords s ++ r)) ≡ s .sections = ap (sectionsIn 65) sections-at ∙ sections-back (s .sections) r 65 f in
       λ j. record { tokenizer = t j; kept = k j; awaited = a j; refused = b j; sections = l j; count = count-word j }

@@ -26,10 +26,10 @@ use Rattle.tokenizer_rows.proofs.Claimed.{rows-tell, lists-tell}
 use Rattle.tokenizer_words.specs.Words.{flag, heldWords, partWords, frontWords, wordsOf, readable}
 use Rattle.tokenizer_words.proofs.Claimed.{flag-tells}
 use Rattle.tokenizer_words.proofs.Claimed.{states-back as tokenizers-back}
-use Rattle.parser_words.specs.ParserWords.{sortWord, sortWords, awaitedWords, keptWords, middleWords, parserWords, areSorts, parserReadable}
+use Rattle.parser_words.specs.ParserWords.{sortWord, sectionWords, awaitedWords, keptWords, middleWords, parserWords, areSorts, parserReadable}
 use Rattle.parser_words.specs.Claims.{Slots, StatesBack, AnswerRows, AnswerLists, Layout}
-use Rattle.parser_words.proofs.Sorts.{sort-words-length}
-use Rattle.parser_words.proofs.Back.{all-words, refused-word, number-word, kept-at, sorts-at, parser-back}
+use Rattle.parser_words.proofs.Sections.{section-words-length}
+use Rattle.parser_words.proofs.Back.{all-words, refused-word, number-word, kept-at, sections-at, parser-back}
 
 -- Each word that is tested stands for something
 
@@ -45,8 +45,8 @@ sort-tells sort.Unset = refl
 sort-tells sort.Map = refl
 sort-tells sort.List = refl
 
-sections-tell : (l : List Section) (r : List ℕ) (n : ℕ) → length l ≡ n → areSorts n (sortWords l ++ r) ≡ true
-unfolding areSorts sortWords
+sections-tell : (l : List Section) (r : List ℕ) (n : ℕ) → length l ≡ n → areSorts n (sectionWords l ++ r) ≡ true
+unfolding areSorts sectionWords
 sections-tell [] r zero e = refl
 sections-tell [] r (suc n) e = absurd (omega arith)
 sections-tell (s ∷ l) r zero e = absurd (omega arith)
@@ -59,25 +59,25 @@ awaited-tells (awaited.Value l) = refl
 awaited-tells (awaited.Multiline l) = refl
 
 module _ (s : State) (r : List ℕ) (h : Slots s) where
-  kept-word : getD (parserWords s ++ r) 140 0 ≡ getD (keptWords (s .kept) ++ (s .count ∷ (sortWords (s .sections) ++ r))) 0 0
+  kept-word : getD (parserWords s ++ r) 140 0 ≡ getD (keptWords (s .kept) ++ (s .count ∷ (sectionWords (s .sections) ++ r))) 0 0
   kept-word = sym (getD-drop 140 (parserWords s ++ r) 0 0) ∙ ap (λ x. getD x 0 0) (kept-at s r (h .0))
 
-  long : 213 ≤ length (parserWords s ++ r)
+  long : 278 ≤ length (parserWords s ++ r)
   long =
-      let l = rw length-drop at (ap length (sorts-at s r (h .0))) in
-      let m : 65 ≤ length (sortWords (s .sections) ++ r) = rw (length-append, sort-words-length, h .1) (omega arith) in
+      let l = rw length-drop at (ap length (sections-at s r (h .0))) in
+      let m : 130 ≤ length (sectionWords (s .sections) ++ r) = rw (length-append, section-words-length, h .1) (omega arith) in
       omega arith
 
   parser-reads : parserReadable (parserWords s ++ r) ≡ true
   unfolding parserReadable
   parser-reads =
       rw (
-        le-leb 213 (length (parserWords s ++ r)) long,
+        le-leb 278 (length (parserWords s ++ r)) long,
         ap readable (all-words s r (h .0)) ∙ tokenizers-back (s .tokenizer) _ (h .0) .reads,
         ap (λ x. leb x 1) (refused-word s r (h .0)) ∙ flag-tells (s .refused),
         ap (λ x. leb x 2) (number-word s r (h .0)) ∙ awaited-tells (s .awaited),
         ap (λ x. leb x 11) kept-word ∙ kept-tells (s .kept) _,
-        ap (areSorts 65) (sorts-at s r (h .0)) ∙ sections-tell (s .sections) r 65 (h .1),
+        ap (areSorts 65) (sections-at s r (h .0)) ∙ sections-tell (s .sections) r 65 (h .1),
       )
 
 pub states-back : StatesBack
@@ -90,5 +90,5 @@ pub answer-lists : AnswerLists
 answer-lists = lists-tell valuesOf values-injective
 
 pub layout : Layout
-unfolding fresh freshTokenizer flag heldWords partWords frontWords wordsOf sortWord sortWords awaitedWords keptWords middleWords parserWords tokenValues
+unfolding fresh freshTokenizer flag heldWords partWords frontWords wordsOf sortWord sectionWords awaitedWords keptWords middleWords parserWords tokenValues
 layout = record { begins = refl; token-kept = refl; end-kept = refl }

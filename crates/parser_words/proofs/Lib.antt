@@ -1,5 +1,5 @@
 pub mod Tests
-pub mod Sorts
+pub mod Sections
 pub mod Back
 pub mod Slotted
 pub mod Restoring

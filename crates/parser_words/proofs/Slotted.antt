@@ -27,7 +27,7 @@ sections-after : (c : Change) (l : List Section) (n : ℕ) → length (sectionsA
 unfolding sectionsAfter
 sections-after Keep l n = refl
 sections-after (Fix s) l n = length-set l _ _
-sections-after Open l n = length-set l _ _
+sections-after (Open o) l n = length-set l _ _
 sections-after Close l n = refl
 
 module _ (d : List ℕ) (T : Tokenizer → Type 0) (steps : (t : Tokenizer) → T t → T (tokenStep d t .state)) (s : State)

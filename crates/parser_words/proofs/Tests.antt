@@ -9,10 +9,10 @@ use Rattle.parser.specs.declared.state.State.{State}
 use Rattle.tokenizer_words.proofs.Storing.{enough}
 use Rattle.parser_words.specs.ParserWords.{parserWords, parserStoredIn, parserReadable}
 
-pub has-213 : (w : List ℕ) → parserReadable w ≡ true → 213 ≤ length w
+pub has-278 : (w : List ℕ) → parserReadable w ≡ true → 278 ≤ length w
 unfolding parserReadable
-has-213 w e = enough 213 (length w) _ e
+has-278 w e = enough 278 (length w) _ e
 
-pub stored-213 : (s : State) (w : List ℕ) → 213 ≤ length w → parserStoredIn s w ≡ parserWords s ++ drop 213 w
+pub stored-278 : (s : State) (w : List ℕ) → 278 ≤ length w → parserStoredIn s w ≡ parserWords s ++ drop 278 w
 unfolding parserStoredIn
-stored-213 s w h = rw (le-leb 213 (length w) h)
+stored-278 s w h = rw (le-leb 278 (length w) h)

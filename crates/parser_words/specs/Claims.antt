@@ -62,13 +62,13 @@ parsed b a k = record {
   kept = k;
   awaited = a;
   refused = b;
-  sections = record { sort = Map } ∷ record { sort = Listed } ∷ replicate 63 noSort;
+  sections = record { sort = Map; line = 0 } ∷ record { sort = Listed; line = 7 } ∷ replicate 63 noSort;
   count = 2;
 }
 
 pub record Layout : Type 0 where
-  pub begins : parserWords fresh ≡ wordsOf freshTokenizer ++ (replicate 10 0 ++ (1 ∷ replicate 65 0))
+  pub begins : parserWords fresh ≡ wordsOf freshTokenizer ++ (replicate 10 0 ++ (1 ∷ replicate 130 0))
   pub token-kept : parserWords (parsed false (awaited.Multiline 8) (kept.Token (MultilineValue 10 (part 17 20) (part 21 33))))
-      ≡ wordsOf (standing true false) ++ (0 ∷ 2 ∷ 8 ∷ 9 ∷ 10 ∷ 21 ∷ 33 ∷ 17 ∷ 20 ∷ 0 ∷ 2 ∷ 1 ∷ 2 ∷ replicate 63 0)
+      ≡ wordsOf (standing true false) ++ (0 ∷ 2 ∷ 8 ∷ 9 ∷ 10 ∷ 21 ∷ 33 ∷ 17 ∷ 20 ∷ 0 ∷ 2 ∷ 1 ∷ 0 ∷ 2 ∷ 7 ∷ replicate 126 0)
   pub end-kept : parserWords (parsed true (awaited.Value 6) kept.End)
-      ≡ wordsOf (standing true false) ++ (1 ∷ 1 ∷ 6 ∷ 11 ∷ 0 ∷ 0 ∷ 0 ∷ 0 ∷ 0 ∷ 0 ∷ 2 ∷ 1 ∷ 2 ∷ replicate 63 0)
+      ≡ wordsOf (standing true false) ++ (1 ∷ 1 ∷ 6 ∷ 11 ∷ 0 ∷ 0 ∷ 0 ∷ 0 ∷ 0 ∷ 0 ∷ 2 ∷ 1 ∷ 0 ∷ 2 ∷ 7 ∷ replicate 126 0)

@@ -8,11 +8,11 @@ use Rattle.parser_rules.specs.declared.ruling.Answer.the-variants.{End, Token, 
 
 unfoldable pub isUnfit : Answer → Bool
 isUnfit End = false
-isUnfit (Token t) = false
+isUnfit (Token t o) = false
 isUnfit (Refused n l) = eqb n unfitState
 
 -- the parser's steps stop at End and at 15
 unfoldable pub isStop : Answer → Bool
 isStop End = true
-isStop (Token t) = false
+isStop (Token t o) = false
 isStop (Refused n l) = eqb n unfitState

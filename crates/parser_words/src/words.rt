@@ -27,7 +27,7 @@ ghost use Rattle.parser.specs.Step.{maxSections};
 ghost use Rattle.parser_words.specs.ParserWords.{
   parserSize,
   sortWord,
-  sortWords,
+  sectionWords,
   awaitedWords,
   keptWords,
   middleWords,
@@ -40,17 +40,17 @@ ghost use Rattle.parser_words.specs.ParserWords.{
   freshParserIn,
 };
 
-// Whether the last 65 words are sorts.
+// Whether the sorts of the 65 sections are sorts.
 fn are_sorts(w: &[usize]) -> bool
     requires { ⌜ parserSize ≤ length (now w) ⌝ }
     ensures { λ r. ⌜ r ≡ areSorts maxSections (drop 148 (now (w .entry))) ⌝ }
 {
-    let mut i = 148;
-    while i < 213 {
-        if 2 < w[i] {
+    let mut k = 0;
+    while k < 65 {
+        if 2 < w[148 + 2 * k] {
             return false;
         }
-        i += 1;
+        k += 1;
     }
     true
 }
@@ -59,7 +59,7 @@ fn are_sorts(w: &[usize]) -> bool
 pub fn is_parser(w: &[usize]) -> bool
     ensures { λ r. ⌜ r ≡ parserReadable (now (w .entry)) ⌝ }
 {
-    if w.len() < 213 {
+    if w.len() < 278 {
         return false;
     }
     let front = is_readable(w);
@@ -121,7 +121,7 @@ fn kept_words(k: Kept) -> [usize; 7]
     }
 }
 
-// The eleven words between the tokenizer's and the sorts.
+// The eleven words between the tokenizer's and the sections'.
 fn middle_by(refused: bool, awaited: Awaited, kept: Kept, count: usize) -> [usize; 11]
     ensures { λ r. ⌜ r ≡ flag refused ∷ (awaitedWords awaited ++ keptWords kept ++ (count ∷ [])) ⌝ }
 {
@@ -150,26 +150,27 @@ fn middle(s: State) -> [usize; 11]
     middle_by(s.refused, awaited, kept, s.count)
 }
 
-// Writes the sorts, a word each, after the 148.
-fn put_sorts(sections: [Section; 65], w: &mut [usize])
+// Writes the sections, two words each, after the 148.
+fn put_sections(sections: [Section; 65], w: &mut [usize])
     requires { ⌜ parserSize ≤ length (now w) ⌝ }
-    ensures { λ _. ⌜ now (w .exit) ≡ pasted (sortWords sections) 148 (now (w .entry)) ⌝ }
+    ensures { λ _. ⌜ now (w .exit) ≡ pasted (sectionWords sections) 148 (now (w .entry)) ⌝ }
 {
     let mut k = 0;
     while k < 65 {
         let s = sections[k];
         let sort = s.sort;
-        w[148 + k] = sort_word(sort);
+        w[148 + 2 * k] = sort_word(sort);
+        w[149 + 2 * k] = s.line;
         k += 1;
     }
 }
 
-// Writes the state at the front of the words: true; or false, with nothing written, where there are fewer than 213.
+// Writes the state at the front of the words: true; or false, with nothing written, where there are fewer than 278.
 pub fn store_parser(s: State, words: &mut [usize]) -> bool
     ensures { λ r. ⌜ r ≡ leb parserSize (length (now (words .entry))) ⌝ }
     ensures { λ r. ⌜ now (words .exit) ≡ parserStoredIn s (now (words .entry)) ⌝ }
 {
-    if words.len() < 213 {
+    if words.len() < 278 {
         return false;
     }
     let tokenizer = s.tokenizer;
@@ -177,7 +178,7 @@ pub fn store_parser(s: State, words: &mut [usize]) -> bool
     let m = middle(s);
     store(tokenizer, words);
     paste(&m, 137, words);
-    put_sorts(sections, words);
+    put_sections(sections, words);
     true
 }
 
@@ -199,7 +200,7 @@ fn copy_parser(src: &[usize], dst: &mut [usize])
     let held = held_by(src[5], src[6], src[7]);
     let h = held_words(held);
     let m = middle_in(src);
-    paste(&src[..213], 0, dst);
+    paste(&src[..278], 0, dst);
     paste(&h, 5, dst);
     paste(&m, 137, dst);
 }
@@ -216,14 +217,14 @@ pub fn restore_parser(n: usize, src: &[usize], dst: &mut [usize]) -> bool
     if !is_fit(n, src) {
         return false;
     }
-    if dst.len() < 213 {
+    if dst.len() < 278 {
         return true;
     }
     copy_parser(src, dst);
     true
 }
 
-// Writes the fresh state at the front: true; or false, with nothing written, where there are fewer than 213 words.
+// Writes the fresh state at the front: true; or false, with nothing written, where there are fewer than 278 words.
 pub fn fresh_parser(state: &mut [usize]) -> bool
     ensures { λ r. ⌜ r ≡ leb parserSize (length (now (state .entry))) ⌝ }
     ensures { λ r. ⌜ now (state .exit) ≡ freshParserIn (now (state .entry)) ⌝ }

@@ -13,7 +13,7 @@ use Rattle.tokenizer.specs.declared.token.Token.the-variants as token
 use Rattle.tokenizer.specs.declared.state.Answer.{Answer as Came}
 use Rattle.tokenizer.specs.declared.state.Answer.the-variants as came
 use Rattle.parser_rules.specs.Ruling.{valuesOf, onEntry, onOutdent, onIndent, settled, afterEntry, afterHint, onToken, onEnd, rulingOf}
-use Rattle.parser_rules.specs.Judging.{sortNumber, awaitedNumber, awaitedLine, outdentBy, itemBy, keyBy, settledBy, afterEntryBy, afterHintBy, judgedBy}
+use Rattle.parser_rules.specs.Judging.{sortNumber, openedLine, awaitedNumber, awaitedLine, outdentBy, itemBy, keyBy, settledBy, afterEntryBy, afterHintBy, judgedBy}
 use Rattle.parser_rules.specs.declared.ruling.Sort.the-variants as sort
 use Rattle.parser_rules.specs.declared.ruling.Awaited.{Awaited}
 use Rattle.parser_rules.specs.declared.ruling.Awaited.the-variants as awaited
@@ -42,7 +42,7 @@ Leaves o Unfit = o .answer ≡ saidBy (bare 271 0)
 -- the outcome of c
 abbrev Agrees : Awaited → Innermost → Bool → Came → Type 0
 Agrees a i full c =
-    Leaves (outcomeBy (judgedBy (cameValues c .number) (awaitedNumber a) (sortNumber i) full) (saidBy (cameValues c)) (awaitedNumber a) (awaitedLine a))
+    Leaves (outcomeBy (judgedBy (cameValues c .number) (awaitedNumber a) (sortNumber i) full) (saidBy (cameValues c)) (awaitedNumber a) (awaitedLine a) (openedLine i))
     (rulingOf a i full c)
 
 at-rest : (i : Innermost) (full : Bool) (c : Came) → Agrees awaited.Nothing i full c
@@ -52,17 +52,17 @@ at-rest i full (came.Token (token.Newline k)) = (refl, (refl, refl))
 at-rest i full (came.Token (token.Comment k p)) = (refl, (refl, refl))
 at-rest i full (came.Token (token.Indent k)) = (refl, (refl, refl))
 at-rest Missing full (came.Token (token.Outdent k)) = refl
-at-rest (Of sort.Unset) full (came.Token (token.Outdent k)) = (refl, (refl, refl))
-at-rest (Of sort.Map) full (came.Token (token.Outdent k)) = (refl, (refl, refl))
-at-rest (Of sort.List) full (came.Token (token.Outdent k)) = (refl, (refl, refl))
+at-rest (Of sort.Unset o) full (came.Token (token.Outdent k)) = (refl, (refl, refl))
+at-rest (Of sort.Map o) full (came.Token (token.Outdent k)) = (refl, (refl, refl))
+at-rest (Of sort.List o) full (came.Token (token.Outdent k)) = (refl, (refl, refl))
 at-rest Missing full (came.Token (token.ListItem k)) = refl
-at-rest (Of sort.Unset) full (came.Token (token.ListItem k)) = (refl, (refl, refl))
-at-rest (Of sort.Map) full (came.Token (token.ListItem k)) = (refl, (refl, refl))
-at-rest (Of sort.List) full (came.Token (token.ListItem k)) = (refl, (refl, refl))
+at-rest (Of sort.Unset o) full (came.Token (token.ListItem k)) = (refl, (refl, refl))
+at-rest (Of sort.Map o) full (came.Token (token.ListItem k)) = (refl, (refl, refl))
+at-rest (Of sort.List o) full (came.Token (token.ListItem k)) = (refl, (refl, refl))
 at-rest Missing full (came.Token (token.MapKey k p)) = refl
-at-rest (Of sort.Unset) full (came.Token (token.MapKey k p)) = (refl, (refl, refl))
-at-rest (Of sort.Map) full (came.Token (token.MapKey k p)) = (refl, (refl, refl))
-at-rest (Of sort.List) full (came.Token (token.MapKey k p)) = (refl, (refl, refl))
+at-rest (Of sort.Unset o) full (came.Token (token.MapKey k p)) = (refl, (refl, refl))
+at-rest (Of sort.Map o) full (came.Token (token.MapKey k p)) = (refl, (refl, refl))
+at-rest (Of sort.List o) full (came.Token (token.MapKey k p)) = (refl, (refl, refl))
 at-rest i full (came.Token (token.Value k p)) = refl
 at-rest i full (came.Token (token.MultilineHint k p)) = refl
 at-rest i full (came.Token (token.MultilineValue k q p)) = refl

@@ -1,11 +1,11 @@
 -- What comes: the words say what was kept, or the tokenizer's next; and it leads to the tokenizer's state after it.
-use Prim.Native.Nat.{ℕ, zero, suc, _+_, _≤_}
+use Prim.Native.Nat.{ℕ, zero, suc, _+_, _*_, _≤_, _<_}
 use mathlib.Core.Path.{_≡_, refl, sym, ap, _∙_}
 use mathlib.Core.List.{List, _++_}
 use mathlib.Core.Bool.{true}
 use native.Mathlib.Omega.{arith}
 use lib.Dec.{ltb}
-use lib.ListN.{length, drop, getD, List·getD-append}
+use lib.ListN.{length, drop, getD}
 use lib.Seq.{getD-drop}
 use borrow.Author.Tests.{ltb-true}
 use Rattle.text.proofs.Cases.{by-bool}
@@ -19,7 +19,7 @@ use Rattle.tokenizer_rules.specs.declared.plan.Change.the-variants as moves
 use Rattle.tokenizer.proofs.Fitness.{fitness}
 use Rattle.tokenizer.proofs.Kept.{step-fit}
 use Rattle.tokenizer.proofs.Advancing.{step-said}
-use Rattle.parser_rules.specs.Judging.{sortNumber}
+use Rattle.parser_rules.specs.Judging.{sortNumber, openedLine}
 use Rattle.parser_rules.specs.declared.ruling.Sort.{Sort}
 use Rattle.parser_rules.specs.declared.ruling.Sort.the-variants as sort
 use Rattle.parser_rules.specs.declared.ruling.Kept.{Kept}
@@ -27,34 +27,48 @@ use Rattle.parser_rules.specs.declared.ruling.Kept.the-variants as kept
 use Rattle.parser_rules.specs.declared.ruling.Innermost.the-variants.{Of}
 use Rattle.parser.specs.Step.{noSort, innermostOf, cameOf}
 use Rattle.parser.specs.declared.state.Section.{Section}
+use Rattle.parser.proofs.Valued.{carries-none}
 use Rattle.tokenizer_rows.specs.Rows.{rowOf}
 use Rattle.tokenizer_words.specs.Words.{wordsOf, stateIn}
 use Rattle.tokenizer_words.proofs.Standing.{slots-64}
 use Rattle.tokenizer_words.proofs.Slotted.{step-slots}
-use Rattle.parser_words.specs.ParserWords.{sortWord, sortWords, keptWords}
+use Rattle.parser_words.specs.ParserWords.{sortWord, sectionWords, keptWords}
 use Rattle.step_words.specs.Fronts.{committed}
-use Rattle.step_words.specs.Stepping.{keptNumber, cameIn, sortAt}
+use Rattle.step_words.specs.Stepping.{keptNumber, cameIn, sortAt, openedAt}
 use Rattle.step_words.specs.declared.step.Layer.the-variants.{Parser}
 use Rattle.step_words.proofs.Fronts.{stepped, step-committed}
-use Rattle.parser_words.proofs.Sorts.{sort-words-length, sort-word-at}
+use Rattle.parser_words.proofs.Sections.{section-at}
 use Rattle.parser_words.proofs.Back.{not-0, not-11}
 
--- the innermost sort, by number
-of-sort : (s : Sort) → sortWord s ≡ sortNumber (Of s)
+-- the innermost section's sort, by number, and its line
+of-sort : (s : Sort) (o : ℕ) → sortWord s ≡ sortNumber (Of s o)
 unfolding sortWord
-of-sort sort.Unset = refl
-of-sort sort.Map = refl
-of-sort sort.List = refl
+of-sort sort.Unset o = refl
+of-sort sort.Map o = refl
+of-sort sort.List o = refl
 
-pub sort-is : (l : List Section) (n : ℕ) (w r : List ℕ) → drop 148 w ≡ sortWords l ++ r → length l ≡ 65 → sortAt n w ≡ sortNumber (innermostOf l n)
-unfolding sortAt innermostOf
-sort-is l zero w r e f = refl
-sort-is l (suc k) w r e f =
-    by-bool (ltb k 65)
-    (λ q. let h = ltb-true k 65 q in
-    rw q (sym (getD-drop 148 w k 0) ∙ ap (λ x. getD x k 0) e ∙ List·getD-append (sortWords l) r 0 k (omega (arith, sort-words-length l))
-    ∙ sort-word-at l k noSort (omega arith) ∙ of-sort (getD l k noSort .sort)))
-    (λ q. rw q)
+module _ (l : List Section) (w r : List ℕ) (e : drop 148 w ≡ sectionWords l ++ r) (f : length l ≡ 65) where
+  at-148 : (i : ℕ) → getD w (148 + i) 0 ≡ getD (sectionWords l ++ r) i 0
+  at-148 i = sym (getD-drop 148 w i 0) ∙ ap (λ x. getD x i 0) e
+
+  pub sort-is : (n : ℕ) → sortAt n w ≡ sortNumber (innermostOf l n)
+  unfolding sortAt innermostOf
+  sort-is zero = refl
+  sort-is (suc k) =
+      by-bool (ltb k 65)
+      (λ q. let h = ltb-true k 65 q in rw q (at-148 (2 * k) ∙ section-at l r k noSort (omega arith) .0 ∙ of-sort (getD l k noSort .sort) (getD l k noSort .line)))
+      (λ q. rw q)
+
+  pub opened-is : (n : ℕ) → openedAt n w ≡ openedLine (innermostOf l n)
+  unfolding openedAt innermostOf
+  opened-is zero = refl
+  opened-is (suc k) =
+      by-bool (ltb k 65)
+      (λ q.
+      let h = ltb-true k 65 q in
+      let i : 149 + 2 * k ≡ 148 + (2 * k + 1) = omega arith in
+      rw (q, i) (at-148 (2 * k + 1) ∙ section-at l r k noSort (omega arith) .1))
+      (λ q. rw q)
 
 -- what was kept leaves the tokenizer's state as it is
 stays : (w : List ℕ) (s : Said) → 137 ≤ length w → getD w 8 0 ≤ 64
@@ -98,7 +112,8 @@ module _ (d w : List ℕ) (l : length d ≤ 16777216) (h : 137 ≤ length w) (f 
         }
     comes (kept.Token t) e =
         let q : cameIn Parser d w ≡ record { said = saidBy (tokenValues t); front = frontOf (stateIn w); change = moves.Keep; indent = noPart } =
-        unfold cameIn keptNumber in rw (word _ 0 e, word _ 1 e, word _ 2 e, word _ 3 e, word _ 4 e, word _ 5 e, not-0 t, not-11 t) in
+        unfold cameIn keptNumber in rw (word _ 0 e, word _ 1 e, word _ 2 e, word _ 3 e, word _ 4 e, word _ 5 e, not-0 t, not-11 t)
+        (ap (λ v. record { said = saidBy v; front = frontOf (stateIn w); change = moves.Keep; indent = noPart }) (carries-none t)) in
         record {
           said = ap (λ (m : Advanced). m .said) q;
           words = ap (λ m. committed m w) q ∙ stays w _ h depth-64;

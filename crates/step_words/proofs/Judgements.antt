@@ -105,18 +105,18 @@ few n End h = tt
 few n Unfit h = tt
 
 -- what it leaves fits the record
-pub change-fits : (n : ℕ) (v : Judged) (s : Said) (a l : ℕ) → Sound n v → ChangeFits (outcomeBy v s a l .change) n
+pub change-fits : (n : ℕ) (v : Judged) (s : Said) (a l o : ℕ) → Sound n v → ChangeFits (outcomeBy v s a l o .change) n
 unfolding outcomeBy
-change-fits n GivesOn s a l h = tt
-change-fits n NoValue s a l h = tt
-change-fits n Opens s a l h = h
-change-fits n Closes s a l h = h
-change-fits n Map s a l h = h
-change-fits n Listed s a l h = h
-change-fits n Hint s a l h = tt
-change-fits n Value s a l h = tt
-change-fits n Passes s a l h = tt
-change-fits n (Refuses k) s a l h = tt
-change-fits n RefusesEntry s a l h = tt
-change-fits n End s a l h = tt
-change-fits n Unfit s a l h = tt
+change-fits n GivesOn s a l o h = tt
+change-fits n NoValue s a l o h = tt
+change-fits n Opens s a l o h = h
+change-fits n Closes s a l o h = h
+change-fits n Map s a l o h = h
+change-fits n Listed s a l o h = h
+change-fits n Hint s a l o h = tt
+change-fits n Value s a l o h = tt
+change-fits n Passes s a l o h = tt
+change-fits n (Refuses k) s a l o h = tt
+change-fits n RefusesEntry s a l o h = tt
+change-fits n End s a l o h = tt
+change-fits n Unfit s a l o h = tt

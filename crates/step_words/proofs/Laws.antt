@@ -69,7 +69,7 @@ tokenizer-steps d w l h f =
     (λ e. rw e (other-came m w (n ∙ e) (ne-eqb (m .said .number) 271 (λ q. omega arith)) ∙ (λ j. record { said = s j; words = step-committed d w l h f j })))
 
 -- the parser's
-module _ (d w : List ℕ) (l : length d ≤ 16777216) (h : 213 ≤ length w) (e : w ≡ parserWords (parserIn w) ++ drop 213 w)
+module _ (d w : List ℕ) (l : length d ≤ 16777216) (h : 278 ≤ length w) (e : w ≡ parserWords (parserIn w) ++ drop 278 w)
     (f : fit (length d) (stateIn w) ≡ true) where
   abbrev t : Step
   t = stepOf d (parserIn w)
@@ -78,7 +78,7 @@ module _ (d w : List ℕ) (l : length d ≤ 16777216) (h : 213 ≤ length w) (e 
   o = outcomeFor Parses (cameIn Parses d w .said) w
 
   parser-goes : parserIn w .refused ≡ false → goneBy Parses (cameIn Parses d w) o w
-      ≡ cond (isStop (t .answer)) (stays (valuesOf (t .answer) .number) w) (record { said = saidBy (valuesOf (t .answer)); words = parserWords (t .state) ++ drop 213 w })
+      ≡ cond (isStop (t .answer)) (stays (valuesOf (t .answer) .number) w) (record { said = saidBy (valuesOf (t .answer)); words = parserWords (t .state) ++ drop 278 w })
   unfolding leftIn
   parser-goes r =
       let s : o .answer ≡ saidBy (valuesOf (t .answer)) = answer-is d w l h e f r in
@@ -89,12 +89,12 @@ module _ (d w : List ℕ) (l : length d ≤ 16777216) (h : 213 ≤ length w) (e 
       (λ q. rw q (went-on Parses (cameIn Parses d w) o w (k ∙ q) ∙ (λ j. record { said = s j; words = words-are d w l h e f r q j })))
 
   at-end : parserIn w .refused ≡ true → stays 0 w
-      ≡ cond (isStop (t .answer)) (stays (valuesOf (t .answer) .number) w) (record { said = saidBy (valuesOf (t .answer)); words = parserWords (t .state) ++ drop 213 w })
+      ≡ cond (isStop (t .answer)) (stays (valuesOf (t .answer) .number) w) (record { said = saidBy (valuesOf (t .answer)); words = parserWords (t .state) ++ drop 278 w })
   unfolding parserIn isStop valuesOf
   at-end r = rw (ended d (parserIn w) l f r)
 
   parser-step : stepIn Parses d w
-      ≡ cond (isStop (t .answer)) (stays (valuesOf (t .answer) .number) w) (record { said = saidBy (valuesOf (t .answer)); words = parserWords (t .state) ++ drop 213 w })
+      ≡ cond (isStop (t .answer)) (stays (valuesOf (t .answer) .number) w) (record { said = saidBy (valuesOf (t .answer)); words = parserWords (t .state) ++ drop 278 w })
   unfolding refusedIn parserIn
   parser-step =
       by-bool (refusedIn Parses w)
@@ -155,6 +155,6 @@ reads d s w e h =
 pub fresh-reads : FreshReads
 unfolding freshParserIn
 fresh-reads d w h =
-    let z : drop 213 w ≡ [] = subst (λ n. drop n w ≡ []) h (drop-length w) in
-    let e : freshParserIn w ≡ parserWords fresh = rw (le-leb 213 (length w) (omega (arith, h)), z, append-nil) in
+    let z : drop 278 w ≡ [] = subst (λ n. drop n w ≡ []) h (drop-length w) in
+    let e : freshParserIn w ≡ parserWords fresh = rw (le-leb 278 (length w) (omega (arith, h)), z, append-nil) in
     reads d fresh (freshParserIn w) e (fresh-whole d)

@@ -33,12 +33,12 @@ Fair (came.Refused n l) = eqb n 15 ≡ false
 entry : (t : Token) (l : ℕ) (s : Sort) (n : ℕ) (i : Innermost) → eqb n 15 ≡ false → GoesOn (onEntry t l s n i)
 unfolding onEntry isStop
 entry t l s n Missing h = tt
-entry t l s n (Of i) h = on-cond GoesOn (clashes i s) (λ e. h) (λ e. refl)
+entry t l s n (Of i o) h = on-cond GoesOn (clashes i s) (λ e. h) (λ e. refl)
 
 outdent : (t : Token) (i : Innermost) → GoesOn (onOutdent t i)
 unfolding onOutdent isStop
 outdent t Missing = tt
-outdent t (Of i) = refl
+outdent t (Of i o) = refl
 
 at-rest : (i : Innermost) (t : Token) → GoesOn (settled i t)
 unfolding settled isStop

@@ -27,7 +27,7 @@ use Rattle.parser.specs.declared.state.Step.{Step}
 use Rattle.tokenizer_words.specs.Words.{stateIn}
 use Rattle.tokenizer_words.proofs.Slots.{words-137}
 use Rattle.parser_words.specs.ParserWords.{parserWords, parserIn}
-use Rattle.parser_words.proofs.Sorts.{sort-words-length, middle-11}
+use Rattle.parser_words.proofs.Sections.{section-words-length, middle-11}
 use Rattle.parser_words.proofs.Back.{parser-back}
 use Rattle.tokenizer_words.proofs.Slotted.{step-slots}
 use Rattle.step_words.specs.Claims.{Whole}
@@ -36,7 +36,7 @@ sections-after : (c : Change) (l : List Section) (n : ℕ) → length (sectionsA
 unfolding sectionsAfter
 sections-after Keep l n = refl
 sections-after (Fix s) l n = length-set l _ _
-sections-after Open l n = length-set l _ _
+sections-after (Open o) l n = length-set l _ _
 sections-after Close l n = refl
 
 module _ (d : List ℕ) (s : State) (h : Whole d s) where
@@ -69,9 +69,9 @@ pub fresh-whole : (d : List ℕ) → Whole d fresh
 unfolding fresh freshTokenizer fit fitOpen
 fresh-whole d = record { slots = refl; sections = refl; fits = rw (le-leb 0 (length d) (omega arith)) }
 
-pub words-213 : (s : State) → length (s .tokenizer .indents) ≡ 64 → length (s .sections) ≡ 65 → length (parserWords s) ≡ 213
+pub words-278 : (s : State) → length (s .tokenizer .indents) ≡ 64 → length (s .sections) ≡ 65 → length (parserWords s) ≡ 278
 unfolding parserWords
-words-213 s e f = rw (length-append, length-append, words-137 (s .tokenizer) e, middle-11 s, sort-words-length (s .sections), f)
+words-278 s e f = rw (length-append, length-append, words-137 (s .tokenizer) e, middle-11 s, section-words-length (s .sections), f)
 
 -- words in which a state stands
 module _ (s : State) (e : length (s .tokenizer .indents) ≡ 64) (f : length (s .sections) ≡ 65) (r v : List ℕ) (q : v ≡ parserWords s ++ r) where
@@ -82,11 +82,11 @@ module _ (s : State) (e : length (s .tokenizer .indents) ≡ 64) (f : length (s 
   unfolding parserIn
   stood-tokenizer = ap (λ (x : State). x .tokenizer) stood-state
 
-  pub stood-rest : drop 213 v ≡ r
-  stood-rest = ap (drop 213) q ∙ drop-at (parserWords s) r 213 (words-213 s e f)
+  pub stood-rest : drop 278 v ≡ r
+  stood-rest = ap (drop 278) q ∙ drop-at (parserWords s) r 278 (words-278 s e f)
 
-  pub stood-words : v ≡ parserWords (parserIn v) ++ drop 213 v
+  pub stood-words : v ≡ parserWords (parserIn v) ++ drop 278 v
   stood-words = q ∙ sym (λ j. parserWords (stood-state j) ++ stood-rest j)
 
-  pub stood-length : length v ≡ 213 + length r
-  stood-length = rw (q, length-append, words-213 s e f)
+  pub stood-length : length v ≡ 278 + length r
+  stood-length = rw (q, length-append, words-278 s e f)

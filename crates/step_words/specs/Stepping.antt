@@ -1,6 +1,6 @@
 -- Intermediate, tied to the law by proofs/Going: one step of a state in words, in place. Of the words of a fit state it is the
 -- step of specs/Step, the tokenizer's or the parser's; of any others it is stated too, so that it asks nothing.
-use Prim.Native.Nat.{ℕ, zero, suc, _+_}
+use Prim.Native.Nat.{ℕ, zero, suc, _+_, _*_}
 use mathlib.Core.List.{List}
 use mathlib.Core.Bool.{Bool, false, cond, _||_}
 use lib.Dec.{eqb, leb, ltb}
@@ -36,7 +36,7 @@ keptNumber Parser w = getD w 140 0
 abbrev pub keptSaid : List ℕ → Said
 keptSaid w =
     cond (eqb (getD w 140 0) 11) nothing
-    (record { number = getD w 140 0; line = getD w 141 0; start = getD w 142 0; end = getD w 143 0; from = getD w 144 0; to = getD w 145 0 })
+    (record { number = getD w 140 0; line = getD w 141 0; start = getD w 142 0; end = getD w 143 0; from = getD w 144 0; to = getD w 145 0; opened = 0 })
 
 -- what was kept comes again and moves nothing, else the tokenizer's next
 unfoldable pub cameIn : Layer → List ℕ → List ℕ → Advanced
@@ -47,7 +47,12 @@ cameIn layer d w =
 -- the innermost section's sort, n being open; 3 where there is none
 unfoldable pub sortAt : ℕ → List ℕ → ℕ
 sortAt zero w = 3
-sortAt (suc n) w = cond (ltb n 65) (getD w (148 + n) 0) 3
+sortAt (suc n) w = cond (ltb n 65) (getD w (148 + 2 * n) 0) 3
+
+-- the line of the key or item that opened it; 0 where there is none
+unfoldable pub openedAt : ℕ → List ℕ → ℕ
+openedAt zero w = 0
+openedAt (suc n) w = cond (ltb n 65) (getD w (149 + 2 * n) 0) 0
 
 -- what is judged of an answer of that number: the tokenizer gives all but End on
 unfoldable pub judgedIn : Layer → ℕ → List ℕ → Judged
@@ -56,7 +61,7 @@ judgedIn Parser n w = judgedBy n (getD w 138 0) (sortAt (getD w 147 0) w) (leb 6
 
 -- what that leaves
 abbrev pub outcomeFor : Layer → Said → List ℕ → Outcome
-outcomeFor layer s w = outcomeBy (judgedIn layer (s .number) w) s (getD w 138 0) (getD w 139 0)
+outcomeFor layer s w = outcomeBy (judgedIn layer (s .number) w) s (getD w 138 0) (getD w 139 0) (openedAt (getD w 147 0) w)
 
 -- the words with what the parser leaves, n sections being open
 unfoldable pub leftIn : Layer → Outcome → ℕ → List ℕ → List ℕ

@@ -10,7 +10,9 @@ ghost use mathlib.Core.Path.{_≡_};
 ghost use Rattle.tokenizer.specs.Token.{bare};
 ghost use Rattle.tokenizer.specs.Front.{saidBy};
 ghost use Rattle.parser.specs.Step.{ChangeFits, countAfter};
-ghost use Rattle.step_words.specs.Outcomes.{Few, given, denied, keptBy, outcomeBy, sortPut, outcomeIn};
+ghost use lib.ListN.{getD};
+ghost use Rattle.step_words.specs.Stepping.{openedAt};
+ghost use Rattle.step_words.specs.Outcomes.{Few, carrying, given, denied, keptBy, outcomeBy, sectionPut, outcomeIn};
 
 // The answer, whether it is a refusal, what is awaited with its line, what is kept, and what becomes of the sections.
 pub(crate) struct Outcome {
@@ -32,6 +34,22 @@ pub(crate) fn say(number: usize, line: usize) -> Said
         end: 0,
         from: 0,
         to: 0,
+        opened: 0,
+    }
+}
+
+// What is said, with the line that it carries.
+fn carry(opened: usize, s: Said) -> Said
+    ensures { λ r. ⌜ r ≡ carrying opened s ⌝ }
+{
+    Said {
+        number: s.number,
+        line: s.line,
+        start: s.start,
+        end: s.end,
+        from: s.from,
+        to: s.to,
+        opened,
     }
 }
 
@@ -71,11 +89,26 @@ fn keep(s: Said) -> Said
     s
 }
 
-// What a judgement leaves, s having come where something was awaited, or nothing, with that line.
-pub(crate) fn outcome_of(v: Judged, s: Said, awaited: usize, line: usize) -> Outcome
-    requires { ⌜ Few v ⌝ }
-    ensures { λ r. ⌜ r ≡ outcomeBy v s awaited line ⌝ }
+// The line of the key or item that opened the innermost section; 0 where there is none.
+fn opened_at(count: usize, w: &[usize; 278]) -> usize
+    ensures { λ r. ⌜ r ≡ openedAt count (now (w .entry)) ⌝ }
 {
+    if count == 0 {
+        return 0;
+    }
+    if 65 < count {
+        return 0;
+    }
+    w[147 + 2 * count]
+}
+
+// What a judgement leaves, s having come to the words' state. The innermost section's line is read only where it closes.
+pub(crate) fn outcome_of(v: Judged, s: Said, w: &[usize; 278]) -> Outcome
+    requires { ⌜ Few v ⌝ }
+    ensures { λ r. ⌜ r ≡ outcomeBy v s (getD (now (w .entry)) 138 0) (getD (now (w .entry)) 139 0) (openedAt (getD (now (w .entry)) 147 0) (now (w .entry))) ⌝ }
+{
+    let awaited = w[138];
+    let line = w[139];
     match v {
         Judged::GivesOn => gives(s, awaited, line, Change::Keep),
         Judged::NoValue => Outcome {
@@ -86,8 +119,8 @@ pub(crate) fn outcome_of(v: Judged, s: Said, awaited: usize, line: usize) -> Out
             kept: keep(s),
             change: Change::Keep,
         },
-        Judged::Opens => gives(s, 0, 0, Change::Open),
-        Judged::Closes => gives(s, 0, 0, Change::Close),
+        Judged::Opens => gives(s, 0, 0, Change::Open(line)),
+        Judged::Closes => gives(carry(opened_at(w[147], w), s), 0, 0, Change::Close),
         Judged::Map => gives(s, 1, s.line, Change::Fix(Sort::Map)),
         Judged::List => gives(s, 1, s.line, Change::Fix(Sort::List)),
         Judged::Hint => gives(s, 2, line, Change::Keep),
@@ -107,29 +140,30 @@ fn count_after(change: Change, count: usize) -> usize
     match change {
         Change::Keep => count,
         Change::Fix(_) => count,
-        Change::Open => count + 1,
+        Change::Open(_) => count + 1,
         Change::Close => count - 1,
     }
 }
 
-fn put_sort(change: Change, count: usize, w: &mut [usize; 213])
+fn put_section(change: Change, count: usize, w: &mut [usize; 278])
     requires { ⌜ ChangeFits change count ⌝ }
-    ensures { λ _. ⌜ now (w .exit) ≡ sortPut change count (now (w .entry)) ⌝ }
+    ensures { λ _. ⌜ now (w .exit) ≡ sectionPut change count (now (w .entry)) ⌝ }
 {
     match change {
         Change::Keep => {}
         Change::Fix(sort) => {
-            w[147 + count] = sort_word(sort);
+            w[146 + 2 * count] = sort_word(sort);
         }
-        Change::Open => {
-            w[148 + count] = 0;
+        Change::Open(line) => {
+            w[148 + 2 * count] = 0;
+            w[149 + 2 * count] = line;
         }
         Change::Close => {}
     }
 }
 
 // Writes what a judgement leaves, count being the number of open sections.
-pub(crate) fn put_outcome(o: Outcome, count: usize, w: &mut [usize; 213])
+pub(crate) fn put_outcome(o: Outcome, count: usize, w: &mut [usize; 278])
     requires { ⌜ ChangeFits (o .change) count ⌝ }
     ensures { λ _. ⌜ now (w .exit) ≡ outcomeIn o count (now (w .entry)) ⌝ }
 {
@@ -145,9 +179,9 @@ pub(crate) fn put_outcome(o: Outcome, count: usize, w: &mut [usize; 213])
         k.end,
         k.from,
         k.to,
-        0,
+        k.opened,
         count_after(change, count),
     ];
     paste(&middle, 137, w);
-    put_sort(change, count, w);
+    put_section(change, count, w);
 }

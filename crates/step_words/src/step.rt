@@ -38,7 +38,7 @@ pub enum Layer {
 }
 
 // Whether the parser has refused.
-fn is_refused(layer: Layer, w: &[usize; 213]) -> bool
+fn is_refused(layer: Layer, w: &[usize; 278]) -> bool
     ensures { λ r. ⌜ r ≡ refusedIn layer (now (w .entry)) ⌝ }
 {
     match layer {
@@ -48,7 +48,7 @@ fn is_refused(layer: Layer, w: &[usize; 213]) -> bool
 }
 
 // The number of what the parser kept; 0 for nothing.
-fn kept_number(layer: Layer, w: &[usize; 213]) -> usize
+fn kept_number(layer: Layer, w: &[usize; 278]) -> usize
     ensures { λ r. ⌜ r ≡ keptNumber layer (now (w .entry)) ⌝ }
 {
     match layer {
@@ -58,7 +58,7 @@ fn kept_number(layer: Layer, w: &[usize; 213]) -> usize
 }
 
 // What was kept, as what a step says: 11 is End.
-fn kept_said(w: &[usize; 213]) -> Said
+fn kept_said(w: &[usize; 278]) -> Said
     ensures { λ r. ⌜ r ≡ keptSaid (now (w .entry)) ⌝ }
 {
     if w[140] == 11 {
@@ -71,11 +71,12 @@ fn kept_said(w: &[usize; 213]) -> Said
         end: w[143],
         from: w[144],
         to: w[145],
+        opened: 0,
     }
 }
 
 // What was kept comes again and moves nothing, else the tokenizer's next.
-fn came(doc: &[u8], layer: Layer, w: &[usize; 213]) -> Advanced
+fn came(doc: &[u8], layer: Layer, w: &[usize; 278]) -> Advanced
     ensures { λ r. ⌜ r ≡ cameIn layer (now (doc .entry)) (now (w .entry)) ⌝ }
 {
     let front = front_in(w);
@@ -94,7 +95,7 @@ fn came(doc: &[u8], layer: Layer, w: &[usize; 213]) -> Advanced
 }
 
 // The innermost section's sort; 3 where there is none.
-fn sort_at(count: usize, w: &[usize; 213]) -> usize
+fn sort_at(count: usize, w: &[usize; 278]) -> usize
     ensures { λ r. ⌜ r ≡ sortAt count (now (w .entry)) ⌝ }
 {
     if count == 0 {
@@ -103,11 +104,11 @@ fn sort_at(count: usize, w: &[usize; 213]) -> usize
     if 65 < count {
         return 3;
     }
-    w[147 + count]
+    w[146 + 2 * count]
 }
 
 // What is made of an answer of that number; the tokenizer gives all but End on.
-fn judged(layer: Layer, number: usize, w: &[usize; 213]) -> Judged
+fn judged(layer: Layer, number: usize, w: &[usize; 278]) -> Judged
     ensures { λ r. ⌜ r ≡ judgedIn layer number (now (w .entry)) ⌝ }
 {
     match layer {
@@ -135,7 +136,7 @@ pub fn stops(number: usize) -> bool
 }
 
 // Writes what the parser leaves.
-fn leave(layer: Layer, o: Outcome, count: usize, w: &mut [usize; 213])
+fn leave(layer: Layer, o: Outcome, count: usize, w: &mut [usize; 278])
     requires { ⌜ ChangeFits (o .change) count ⌝ }
     ensures { λ _. ⌜ now (w .exit) ≡ leftIn layer o count (now (w .entry)) ⌝ }
 {
@@ -149,7 +150,7 @@ fn leave(layer: Layer, o: Outcome, count: usize, w: &mut [usize; 213])
 pub fn step_in(
     doc: &[u8],
     layer: Layer,
-    w: &mut [usize; 213],
+    w: &mut [usize; 278],
     at: usize,
     rows: &mut [usize],
 ) -> usize
@@ -163,7 +164,7 @@ pub fn step_in(
     let m = came(doc, layer, w);
     let said = m.said;
     let v = judged(layer, said.number, w);
-    let o = outcome_of(v, said, w[138], w[139]);
+    let o = outcome_of(v, said, w);
     let answer = o.answer;
     if stops(answer.number) {
         return answer.number;

@@ -23,7 +23,7 @@ frontOf s = record { place = s .place; line = s .line; marks = s .marks; held = 
 
 -- an answer's values
 abbrev pub saidBy : Values → Said
-saidBy v = record { number = v .number; line = v .line; start = v .start; end = v .end; from = v .from; to = v .to }
+saidBy v = record { number = v .number; line = v .line; start = v .start; end = v .end; from = v .from; to = v .to; opened = v .opened }
 
 abbrev pub frontAfter : Front → Part → Plan → Front
 frontAfter f i p = record {

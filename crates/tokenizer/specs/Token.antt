@@ -24,7 +24,8 @@ use Rattle.tokenizer.specs.declared.state.Answer.{Answer}
 use Rattle.tokenizer.specs.declared.state.Answer.the-variants.{End, Refused}
 use Rattle.tokenizer.specs.declared.state.Answer.the-variants.{Token as Gives}
 
--- number, line, start and end of the text, start and end of the indentation; 0 where there is none
+-- number, line, start and end of the text, start and end of the indentation; 0 where there is none. The last is the
+-- parser's: the line of the key or item whose section an Outdent closes, and 0 else.
 pub record Values : Type 0 where
   pub number : ℕ
   pub line : ℕ
@@ -32,12 +33,13 @@ pub record Values : Type 0 where
   pub end : ℕ
   pub from : ℕ
   pub to : ℕ
+  pub opened : ℕ
 
 abbrev pub bare : ℕ → ℕ → Values
-bare n l = record { number = n; line = l; start = 0; end = 0; from = 0; to = 0 }
+bare n l = record { number = n; line = l; start = 0; end = 0; from = 0; to = 0; opened = 0 }
 
 abbrev pub withText : ℕ → ℕ → Part → Values
-withText n l p = record { number = n; line = l; start = p .start; end = p .end; from = 0; to = 0 }
+withText n l p = record { number = n; line = l; start = p .start; end = p .end; from = 0; to = 0; opened = 0 }
 
 -- a token's kind and values
 unfoldable pub tokenValues : Token → Values
@@ -49,7 +51,7 @@ tokenValues (ListItem l) = bare 5 l
 tokenValues (MapKey l p) = withText 6 l p
 tokenValues (Value l p) = withText 7 l p
 tokenValues (MultilineHint l p) = withText 8 l p
-tokenValues (MultilineValue l i p) = record { number = 9; line = l; start = p .start; end = p .end; from = i .start; to = i .end }
+tokenValues (MultilineValue l i p) = record { number = 9; line = l; start = p .start; end = p .end; from = i .start; to = i .end; opened = 0 }
 tokenValues (NoValue l) = bare 10 l
 
 -- the number by which an answer says the refusal n: above the kinds

@@ -30,7 +30,8 @@ pub struct Front {
     pub depth: usize,
 }
 
-// An answer in numbers: its kind, 0 for End, 256 and the number for a refusal; its line, its text and its indentation.
+// An answer in numbers: its kind, 0 for End, 256 and the number for a refusal; its line, its text and its indentation;
+// and the line that the parser adds to an Outdent, 0 else.
 pub struct Said {
     pub number: usize,
     pub line: usize,
@@ -38,6 +39,7 @@ pub struct Said {
     pub end: usize,
     pub from: usize,
     pub to: usize,
+    pub opened: usize,
 }
 
 // What a step says, the front after it, and what becomes of the open indentations: where one opens, it is `indent`.
@@ -58,6 +60,7 @@ fn say(number: usize, line: usize) -> Said
         end: 0,
         from: 0,
         to: 0,
+        opened: 0,
     }
 }
 
@@ -73,6 +76,7 @@ fn say_text(number: usize, line: usize, place: usize, p: Part) -> Said
         end: place + p.end,
         from: 0,
         to: 0,
+        opened: 0,
     }
 }
 
@@ -99,6 +103,7 @@ fn numbered(says: Says, line: usize, place: usize, indent: Part) -> Said
             end: place + p.end,
             from: indent.start,
             to: indent.end,
+            opened: 0,
         },
         Says::Refused(n) => say(256 + n, line),
     }

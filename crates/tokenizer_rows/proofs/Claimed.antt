@@ -18,6 +18,7 @@ valuesIn w = record {
   end = getD w 3 0;
   from = getD w 4 0;
   to = getD w 5 0;
+  opened = getD w 6 0;
 }
 
 -- of answers that their values tell apart, rows do

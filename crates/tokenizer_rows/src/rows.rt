@@ -43,5 +43,5 @@ pub fn token_row(t: Token) -> [usize; 7]
 pub fn said_row(s: Said) -> [usize; 7]
     ensures { λ r. ⌜ r ≡ rowBy s ⌝ }
 {
-    [s.number, s.line, s.start, s.end, s.from, s.to, 0]
+    [s.number, s.line, s.start, s.end, s.from, s.to, s.opened]
 }

@@ -28,7 +28,7 @@ fn parsed_after(line: &[u8], at: usize, a: Answer) -> usize {
     }
     match a {
         Answer::End => at,
-        Answer::Token(t) => {
+        Answer::Token(t, _) => {
             let row = token_row(t);
             words_after(line, at, &row, 0, 6)
         }

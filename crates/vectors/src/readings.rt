@@ -28,7 +28,7 @@ pub fn tokens_agree(line: &[u8], s: &[u8], after: usize) -> bool {
 }
 
 pub fn parsing_agrees(line: &[u8], s: &[u8], after: usize) -> bool {
-    let mut words = [0usize; 213];
+    let mut words = [0usize; 278];
     let mut rows = [0usize; 3591];
     parser_words::fresh_parser(&mut words);
     let n = batches::parse(s, &mut words, &mut rows);

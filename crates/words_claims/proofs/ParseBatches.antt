@@ -53,13 +53,13 @@ module _ (d : List ℕ) where
   goes-on : (a : Answer) → Fits d a → isStop a ≡ false
   unfolding isStop
   goes-on answer.End f = absurd f
-  goes-on (answer.Token t) f = refl
+  goes-on (answer.Token t o) f = refl
   goes-on (answer.Refused n l) f = ne-eqb n 15 (λ e. absurd (omega arith))
 
   never-unfit : (a : Answer) → Fits d a → isUnfit a ≡ false
   unfolding isUnfit
   never-unfit answer.End f = absurd f
-  never-unfit (answer.Token t) f = refl
+  never-unfit (answer.Token t o) f = refl
   never-unfit (answer.Refused n l) f = ne-eqb n 15 (λ e. absurd (omega arith))
 
   parsing-fit : {s u : State} {l : List Answer} → Parses d s l u → All (Fits d) l → isUnfit (stepOf d s .answer) ≡ false
@@ -84,7 +84,7 @@ module _ (d : List ℕ) where
   module _ (h : length d ≤ 16777216) where
     batch-taken : {l : List Values} {w : List ℕ} (rows : List ℕ) (x : Stands d l w)
         → let t = taken (parsing d) (roomIn rows) (x .state) in
-        parseBatchOf d w rows ≡ takenBatch (t .answers) (parserWords (t .state) ++ drop 213 w) rows
+        parseBatchOf d w rows ≡ takenBatch (t .answers) (parserWords (t .state) ++ drop 278 w) rows
     unfolding parseBatchOf
     batch-taken {w = w} rows x =
         let b = states-back (x .state) (x .rest) (x .here .slots) in
@@ -99,17 +99,17 @@ module _ (d : List ℕ) where
         let k = here-taken (roomIn rows) l (x .state) (x .here) in
         rw (batch-taken rows x, k .answers) (record {
           gave = record { result = refl; rows = refl };
-          next = record { state = t .state; rest = drop 213 w; words = refl; here = k .here };
+          next = record { state = t .state; rest = drop 278 w; words = refl; here = k .here };
         })
 
-    fresh-stands : (w : List ℕ) → 213 ≤ length w → Stands d (map valuesOf (parse d)) (freshParserIn w)
+    fresh-stands : (w : List ℕ) → 278 ≤ length w → Stands d (map valuesOf (parse d)) (freshParserIn w)
     unfolding freshParserIn
     fresh-stands w k =
         let e = claimed.ends d h in
         record {
           state = fresh;
-          rest = drop 213 w;
-          words = rw (le-leb 213 (length w) k);
+          rest = drop 278 w;
+          words = rw (le-leb 278 (length w) k);
           here = record {
             slots = slotted .begins;
             answers = parse d;

@@ -49,6 +49,7 @@ pub fn row(document: &[u8], token: &Token) -> Row {
         end: text.end,
         from: indent.start,
         to: indent.end,
+        opened: 0,
     }
 }
 

@@ -244,7 +244,7 @@ fn texts(document: &[u8], rows: &[Row], raise: Raise) -> Vec<Unescaped> {
 }
 
 impl Raise {
-    /// Kinds that carry no text keep their zeros.
+    /// Kinds that carry no text keep their zeros, and so does what carries no line of an entry.
     fn row(self, row: Row) -> Row {
         let text = match row.number {
             COMMENT | MAP_KEY..=MULTILINE_VALUE => self.bytes,
@@ -254,6 +254,10 @@ impl Raise {
             MULTILINE_VALUE => self.bytes,
             _ => 0,
         };
+        let opened = match row.opened {
+            0 => 0,
+            line => line + self.lines,
+        };
         Row {
             number: row.number,
             line: row.line + self.lines,
@@ -261,6 +265,7 @@ impl Raise {
             end: row.end + text,
             from: row.from + indent,
             to: row.to + indent,
+            opened,
         }
     }
 

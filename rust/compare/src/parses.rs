@@ -1,7 +1,8 @@
-//! The parser's answers, against the original's `parse`.
+//! The parser's answers, against the original's `parse`. The original does not say which entry an Outdent closes:
+//! that is counted over its answers.
 
 use crate::answers::rows;
-use crate::readings::Reading;
+use crate::readings::{Reading, INDENT, LIST_ITEM, MAP_KEY, OUTDENT};
 use crate::tally::Tally;
 use conl::port::{ParserState, Row};
 
@@ -20,7 +21,18 @@ pub fn compare(tally: &mut Tally, document: &[u8]) {
     READING.compare::<ParserState>(tally, document);
 }
 
-/// What the original says. It ends after a refusal.
+/// What the original says, each Outdent with the line of the entry that it closes. It ends after a refusal.
 pub fn parses(document: &[u8]) -> Vec<Row> {
-    rows(document, original::parse(document))
+    let mut rows = rows(document, original::parse(document));
+    let mut entry = 0;
+    let mut open = Vec::new();
+    for row in &mut rows {
+        match row.number {
+            LIST_ITEM | MAP_KEY => entry = row.line,
+            INDENT => open.push(entry),
+            OUTDENT => row.opened = open.pop().expect("an open section"),
+            _ => {}
+        }
+    }
+    rows
 }

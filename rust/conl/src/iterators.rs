@@ -24,7 +24,8 @@ impl<'tok> Iterator for Tokenizer<'tok> {
 
     #[inline(always)]
     fn next(&mut self) -> Option<Self::Item> {
-        self.0.next()
+        let row = self.0.next()?;
+        Some(self.0.token(row))
     }
 }
 
@@ -36,17 +37,36 @@ impl<'tok> Iterator for Tokenizer<'tok> {
 /// [Token::NoValue], or a section from [Token::Indent] to its [Token::Outdent]. A section has keys
 /// alone or items alone.
 pub fn parse(input: &[u8]) -> Parser<'_> {
-    Parser(Reading::new(input))
+    Parser {
+        reading: Reading::new(input),
+        opened: None,
+    }
 }
 
 /// The iterator that [parse] returns.
-pub struct Parser<'tok>(Reading<'tok, ParserState>);
+pub struct Parser<'tok> {
+    reading: Reading<'tok, ParserState>,
+    opened: Option<usize>,
+}
+
+impl Parser<'_> {
+    /// Which entry just closed: the line of the key or item whose section the last [Token::Outdent]
+    /// closed, and nothing before the first one. The original has nothing like it.
+    pub fn opened(&self) -> Option<usize> {
+        self.opened
+    }
+}
 
 impl<'tok> Iterator for Parser<'tok> {
     type Item = Result<Token<'tok>, SyntaxError>;
 
     #[inline(always)]
     fn next(&mut self) -> Option<Self::Item> {
-        self.0.next()
+        let row = self.reading.next()?;
+        // Only an Outdent carries a line, and never 0: docs/CLAIMS.md, 'Carried'.
+        if row.opened > 0 {
+            self.opened = Some(row.opened);
+        }
+        Some(self.reading.token(row))
     }
 }

@@ -31,8 +31,8 @@
 //!
 //! There are two errors more: a 65th open section is one, and a document, or a token's text, of more
 //! than 16,777,216 bytes is the other, on line 0. A plus in braces, as in `\{+41}`, is an invalid escape
-//! code, where the original takes it. [look_up] finds one entry of a document, and [port] has the calls
-//! of the static library.
+//! code, where the original takes it. [look_up] finds one entry of a document, [Parser::opened] says which
+//! entry just closed, and [port] has the calls of the static library.
 #![warn(clippy::undocumented_unsafe_blocks)]
 
 mod error;

@@ -1,7 +1,7 @@
 //! The rows of a reading as tokens.
 
 use crate::error::SyntaxError;
-use crate::port::{Rows, State, REFUSED};
+use crate::port::{Row, Rows, State, REFUSED};
 use crate::token::Token;
 use std::str;
 
@@ -9,7 +9,7 @@ use std::str;
 const ROOM: usize = 256;
 
 /// A document, and the rows of its reading from the fresh state on. These are boxed: the state in them
-/// is up to 1,704 bytes, and iterators are moved about.
+/// is up to 2,224 bytes, and iterators are moved about.
 pub struct Reading<'tok, S> {
     document: &'tok [u8],
     rows: Box<Rows<'tok, S, ROOM>>,
@@ -24,8 +24,13 @@ impl<'tok, S: State> Reading<'tok, S> {
     }
 
     #[inline(always)]
-    pub fn next(&mut self) -> Option<Result<Token<'tok>, SyntaxError>> {
-        let row = self.rows.next()?;
+    pub fn next(&mut self) -> Option<Row> {
+        self.rows.next()
+    }
+
+    /// The token of a row of this reading, or the error.
+    #[inline(always)]
+    pub fn token(&self, row: Row) -> Result<Token<'tok>, SyntaxError> {
         let document = self.document;
         let text = |start: usize, end: usize| {
             let text = &document[start..end];
@@ -36,6 +41,6 @@ impl<'tok, S: State> Reading<'tok, S> {
             unsafe { str::from_utf8_unchecked(text) }
         };
         let refused = || SyntaxError::refused(row.number.saturating_sub(REFUSED), row.line, "");
-        Some(Token::of_row(&row, text).ok_or_else(refused))
+        Token::of_row(&row, text).ok_or_else(refused)
     }
 }

@@ -14,6 +14,7 @@ fn row(number: usize, start: usize, end: usize) -> Row {
         end,
         from: start,
         to: end,
+        opened: 0,
     }
 }
 

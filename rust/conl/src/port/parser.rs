@@ -19,7 +19,7 @@ extern "C" {
 pub type Parser<'doc, const ROOM: usize> = Rows<'doc, ParserState, ROOM>;
 
 /// Where the parser stands.
-pub struct ParserState(Words<213>);
+pub struct ParserState(Words<278>);
 
 /// The parser's answers for `document`. It ends after a refusal.
 pub fn parse(document: &[u8]) -> Parser<'_, 256> {

@@ -10,7 +10,7 @@ pub const REFUSED: usize = 256;
 /// What a call that takes no step adds to the number of the refusal that it returns.
 pub const NO_STEP: usize = 1 << 63;
 
-/// How many words a row has. The last one is spare.
+/// How many words a row has.
 pub const WORDS: usize = 7;
 
 /// An answer, with zeros for what it does not carry.
@@ -28,10 +28,12 @@ pub struct Row {
     pub from: usize,
     /// Where it ends.
     pub to: usize,
+    /// The line of the key or item whose section an Outdent of the parser's closes.
+    pub opened: usize,
 }
 
 impl Row {
-    /// The words that it is written in, but for the spare one.
+    /// The words that it is written in, but for the last one: those of a token.
     #[inline]
     pub fn words(&self) -> [usize; 6] {
         [
@@ -47,7 +49,7 @@ impl Row {
 
 impl From<[usize; WORDS]> for Row {
     #[inline(always)]
-    fn from([number, line, start, end, from, to, _]: [usize; WORDS]) -> Self {
+    fn from([number, line, start, end, from, to, opened]: [usize; WORDS]) -> Self {
         Row {
             number,
             line,
@@ -55,6 +57,7 @@ impl From<[usize; WORDS]> for Row {
             end,
             from,
             to,
+            opened,
         }
     }
 }

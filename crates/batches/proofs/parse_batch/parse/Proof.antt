@@ -40,7 +40,7 @@ module _ (c : tie.Else2) where
   fits : fit (length (begin (c .before) .args .doc .now)) (parserIn state .tokenizer) ≡ true
   fits = and-right (parserReadable state) _ both
 
-  kept : c .before .put-parser .last .1 .1 .0 ≡ parserStoredIn (parserIn state) (replicate 213 0)
+  kept : c .before .put-parser .last .1 .1 .0 ≡ parserStoredIn (parserIn state) (replicate 278 0)
   kept = c .before .put-parser .ensures .1 ∙ ap (λ x. cond x (parserStoredIn (parserIn state) _) _) put
 
 returns : tie.Need-returns
@@ -71,7 +71,7 @@ returns-3 c =
     let k = c .before .before .before in
     let a = begin (k .before) .args in
     let u = rw (kept k) at (c .before .starts-unfit .ensures) in
-    starts-unfit (a .doc .now) (a .state .now) (a .rows .now) (replicate 213 0) (replicate 213 0) (small k) (omega arith) (read k) (fits k) refl (and-right (ltb (length (a .rows .now)) 7) _ (sym u ∙ c .if3 .taken))
+    starts-unfit (a .doc .now) (a .state .now) (a .rows .now) (replicate 278 0) (replicate 278 0) (small k) (omega arith) (read k) (fits k) refl (and-right (ltb (length (a .rows .now)) 7) _ (sym u ∙ c .if3 .taken))
 
 take-rows-requires : tie.Need-take-rows-requires
 take-rows-requires c κs = search needs
@@ -88,7 +88,7 @@ returns-4 c =
     let k = t .before .before .before .before .before .before in
     let a = begin (k .before) .args in
     let r = rw (kept k) at (t .take-rows .ensures) in
-    none-starts (a .doc .now) (a .state .now) (a .rows .now) (replicate 213 0) (replicate 213 0) (small k) (omega arith) (read k) (fits k) (rw (r .0, r .1 .0) at (c .if4 .taken)) (r .1 .1 .1)
+    none-starts (a .doc .now) (a .state .now) (a .rows .now) (replicate 278 0) (replicate 278 0) (small k) (omega arith) (read k) (fits k) (rw (r .0, r .1 .0) at (c .if4 .taken)) (r .1 .1 .1)
 
 put-back-requires : tie.Need-put-back-requires
 put-back-requires c κs = search needs

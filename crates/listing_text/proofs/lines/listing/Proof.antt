@@ -93,7 +93,7 @@ loop-holds : tie.Need-loop-holds Inv-loop μ-loop
 loop-holds c =
     let if1 = c .before .before .before .if1 in
     let a = c .before .before .before .before .before .before .before .before .before .before .before .args in
-    let f = fresh-reads (a .doc .now) (replicate 213 0) refl in
+    let f = fresh-reads (a .doc .now) (replicate 278 0) refl in
     rw (c .before .fresh-parser .ensures .1) (f .1, start _ _ _ (f .0) (if1 .left) (omega arith))
 
 next-requires : tie.Need-next-requires Inv-loop μ-loop

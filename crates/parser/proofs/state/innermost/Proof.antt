@@ -16,6 +16,9 @@ returns-2 c = sym (inner-past _ _ (c .if2 .taken))
 sub-s : tie.Need-sub-s
 sub-s c = search needs
 
+mul-s : tie.Need-mul-s
+mul-s c = search needs
+
 array-copy-out-s : tie.Need-array-copy-out-s
 array-copy-out-s c = search needs
 
@@ -23,4 +26,4 @@ returns-3 : tie.Need-returns-3
 returns-3 c = sym (inner-last _ _ (c .before .before .if1 .left) (c .before .if2 .left))
 
 pub innermost-spec : {M : Type 1} → statement M
-innermost-spec = tie.close (tie.spec returns returns-2 sub-s array-copy-out-s returns-3)
+innermost-spec = tie.close (tie.spec returns returns-2 sub-s mul-s array-copy-out-s returns-3)

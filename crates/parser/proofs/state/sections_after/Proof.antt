@@ -14,14 +14,14 @@ enum-known-change c = search needs
 fixed-requires : tie.Need-fixed-requires
 fixed-requires c κs = let h = c .before .before .before in subst (λ x. ChangeFits x (h .args .count)) (c .before .change .given .1) (h .pre)
 
-enum-told-2 : tie.Need-enum-told-2
-enum-told-2 c = search needs
+enum-known-change-2 : tie.Need-enum-known-change-2
+enum-known-change-2 c = search needs
 
 opened-requires : tie.Need-opened-requires
-opened-requires c κs = let h = c .before .before in subst (λ x. ChangeFits x (h .args .count)) (c .enum-told2 .given .1) (h .pre)
+opened-requires c κs = let h = c .before .before .before in subst (λ x. ChangeFits x (h .args .count)) (c .before .change2 .given .1) (h .pre)
 
-enum-told-3 : tie.Need-enum-told-3
-enum-told-3 c = search needs
+enum-told-2 : tie.Need-enum-told-2
+enum-told-2 c = search needs
 
 returns : tie.Need-returns
 unfolding sectionsAfter
@@ -33,11 +33,11 @@ returns-2 c = rw (c .fixed .ensures, c .before .before .change .given .1)
 
 returns-3 : tie.Need-returns-3
 unfolding sectionsAfter
-returns-3 c = rw (c .opened .ensures, c .before .enum-told2 .given .1)
+returns-3 c = rw (c .opened .ensures, c .before .before .change2 .given .1)
 
 returns-4 : tie.Need-returns-4
 unfolding sectionsAfter
-returns-4 c = rw (c .enum-told3 .given .1)
+returns-4 c = rw (c .enum-told2 .given .1)
 
 pub sections-after-spec : {M : Type 1} → statement M
 sections-after-spec =
@@ -46,9 +46,9 @@ sections-after-spec =
     enum-told
     enum-known-change
     fixed-requires
-    enum-told-2
+    enum-known-change-2
     opened-requires
-    enum-told-3
+    enum-told-2
     returns
     returns-2
     returns-3

@@ -16,72 +16,63 @@ use Rattle.parser_rules.proofs.ruling.made.Reads as made-reads
 use Rattle.parser_rules.proofs.ruling.refuse.Reads as refuse-reads
 use Rattle.parser_rules.proofs.ruling.sort_number.Reads as sort-number-reads
 
--- src/ruling.rt:188:9
 awaited-number-requires : tie.Need-awaited-number-requires
 awaited-number-requires c κs = search needs
 
--- src/ruling.rt:189:9
 sort-number-requires : tie.Need-sort-number-requires
 sort-number-requires c κs = search needs
 
--- src/ruling.rt:192:17
+opened-line-requires : tie.Need-opened-line-requires
+opened-line-requires c κs = search needs
+
 enum-told : tie.Need-enum-told
 enum-told c = search needs
 
--- src/ruling.rt:192:17
 judge-requires : tie.Need-judge-requires
 judge-requires c κs = search needs
 
--- src/ruling.rt:193:13
 made-requires : tie.Need-made-requires
 made-requires c κs = search needs
 
--- src/ruling.rt:195:34
 enum-known-came : tie.Need-enum-known-came
 enum-known-came c = search needs
 
--- src/ruling.rt:196:27
 kind-requires : tie.Need-kind-requires
 kind-requires c κs = search needs
 
--- src/ruling.rt:196:17
 judge-requires-2 : tie.Need-judge-requires-2
 judge-requires-2 c κs = search needs
 
--- src/ruling.rt:197:13
 made-requires-2 : tie.Need-made-requires-2
 made-requires-2 c κs = search needs
 
--- src/ruling.rt:199:36
 enum-known-came-2 : tie.Need-enum-known-came-2
 enum-known-came-2 c = search needs
 
--- src/ruling.rt:199:53
 refuse-requires : tie.Need-refuse-requires
 refuse-requires c κs = search needs
 
--- src/ruling.rt:185:1
 returns : tie.Need-returns
 unfolding valuesOf
 returns c =
     let j = c .before in
-    let n = j .before .before .before in
+    let o = j .before .before .before in
+    let n = o .before in
     let a = n .before .before .args in
     let e = c .before .before .enum-told .given .1 in
-    rw (c .made .ensures, j .judge .ensures, n .sort-number .ensures, n .before .awaited-number .ensures, e) (sym (stands-for (a .awaited) (a .innermost) (a .full) came.End))
+    rw (c .made .ensures, j .judge .ensures, o .opened-line .ensures, n .sort-number .ensures, n .before .awaited-number .ensures, e) (sym (stands-for (a .awaited) (a .innermost) (a .full) came.End))
 
--- src/ruling.rt:185:1
 returns-2 : tie.Need-returns-2
 unfolding valuesOf
 returns-2 c =
     let j = c .before in
     let k = j .before in
-    let n = k .before .before .before .before in
+    let o = k .before .before .before .before in
+    let n = o .before in
     let a = n .before .before .args in
     let e = k .before .before .came .given .1 in
-    rw (c .made2 .ensures, j .judge2 .ensures, k .kind .ensures, n .sort-number .ensures, n .before .awaited-number .ensures, e) (sym (stands-for (a .awaited) (a .innermost) (a .full) (came.Token _)))
+    rw (c .made2 .ensures, j .judge2 .ensures, k .kind .ensures, o .opened-line .ensures, n .sort-number .ensures, n .before .awaited-number .ensures, e) (sym (stands-for (a .awaited) (a .innermost) (a .full) (came.Token _)))
 
--- src/ruling.rt:185:1
 returns-3 : tie.Need-returns-3
 unfolding rulingOf
 returns-3 c = rw (c .refuse .ensures, c .before .before .came2 .given .1)
@@ -92,6 +83,7 @@ rule-spec =
     (tie.spec
     awaited-number-requires
     sort-number-requires
+    opened-line-requires
     enum-told
     judge-requires
     made-requires

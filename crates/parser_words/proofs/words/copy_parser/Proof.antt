@@ -27,7 +27,7 @@ middle-in-requires c κs = search needs
 slice-aggregate-paste : tie.Need-slice-aggregate-paste
 slice-aggregate-paste c =
     let a = c .before .before .before .before .before .before .before .before .before in
-    sym (length-take-le 213 (a .args .src .now) (a .pre))
+    sym (length-take-le 278 (a .args .src .now) (a .pre))
 
 paste-requires : tie.Need-paste-requires
 paste-requires c κs = search needs

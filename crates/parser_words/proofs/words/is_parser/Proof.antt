@@ -1,4 +1,4 @@
--- `is_parser` tests what `parserReadable` does; the words are read only where there are 213.
+-- `is_parser` tests what `parserReadable` does; the words are read only where there are 278.
 use borrow.Author.Tests.{lt-leb, le-leb}
 use Rattle.parser_words.specs.ParserWords.{parserReadable}
 use borrow.Author.Needs.{needs}

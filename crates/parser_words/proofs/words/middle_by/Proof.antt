@@ -1,5 +1,5 @@
 -- What is awaited and what is kept come from one call each.
-use Rattle.parser_words.proofs.Sorts.{middle-words}
+use Rattle.parser_words.proofs.Sections.{middle-words}
 use borrow.Author.Needs.{needs}
 use Rattle.parser_words.proofs.words.middle_by.Statement.{statement}
 use Rattle.parser_words.proofs.words.middle_by.Tie as tie

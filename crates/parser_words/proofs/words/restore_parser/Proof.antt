@@ -4,7 +4,7 @@ use mathlib.Core.Bool.{_&&_}
 use borrow.Author.Tests.{not-true, not-false, lt-leb}
 use Rattle.tokenizer.specs.Step.{fit}
 use Rattle.parser_words.specs.ParserWords.{parserStoredIn, parserIn}
-use Rattle.parser_words.proofs.Tests.{has-213, stored-213}
+use Rattle.parser_words.proofs.Tests.{has-278, stored-278}
 use Rattle.parser_words.proofs.Restoring.{tokenizer-reads, restored-parser}
 use borrow.Author.Needs.{needs}
 use Rattle.parser_words.proofs.words.restore_parser.Statement.{statement}
@@ -39,7 +39,7 @@ returns-3 c =
 copy-parser-requires : tie.Need-copy-parser-requires
 copy-parser-requires c κs =
     let k = c .before .before .before .before in
-    has-213 _ (sym (k .before .is-parser .ensures) ∙ not-false _ (k .if1 .left))
+    has-278 _ (sym (k .before .is-parser .ensures) ∙ not-false _ (k .if1 .left))
 
 same-length : tie.Need-same-length
 same-length c = search needs
@@ -53,7 +53,7 @@ returns-4 c =
     let r = sym (k .before .is-parser .ensures) ∙ not-false _ (k .if1 .left) in
     let f = rw (tokenizer-reads _ r) at (sym (t .before .is-fit .ensures) ∙ not-false _ (t .if2 .left)) in
     let room = p .before .before .if3 .left in
-    rw (r, f) (refl, p .copy-parser .ensures ∙ restored-parser _ _ r room ∙ sym (stored-213 _ _ room))
+    rw (r, f) (refl, p .copy-parser .ensures ∙ restored-parser _ _ r room ∙ sym (stored-278 _ _ room))
 
 pub restore-parser-spec : {M : Type 1} → statement M
 restore-parser-spec =

@@ -1,4 +1,4 @@
--- The tokenizer's words, then the middle, then the sorts; nothing where there is no room for them.
+-- The tokenizer's words, then the middle, then the sections; nothing where there is no room for them.
 use mathlib.Core.Path.{sym, _∙_}
 use native.Mathlib.Omega.{arith}
 use borrow.Author.Tests.{lt-leb, le-leb}
@@ -6,7 +6,7 @@ use Rattle.tokenizer_words.proofs.Pasting.{pasted-room}
 use Rattle.tokenizer_words.proofs.Slots.{owned-64}
 use Rattle.tokenizer_words.proofs.Storing.{stored-137}
 use Rattle.parser_words.specs.ParserWords.{parserStoredIn}
-use Rattle.parser_words.proofs.Sorts.{owned-65, all-written}
+use Rattle.parser_words.proofs.Sections.{owned-65, all-written}
 use borrow.Author.Needs.{needs}
 use Rattle.parser_words.proofs.words.store_parser.Statement.{statement}
 use Rattle.parser_words.proofs.words.store_parser.Tie as tie
@@ -27,8 +27,8 @@ slice-aggregate-paste c = search needs
 paste-requires : tie.Need-paste-requires
 paste-requires c κs = search needs
 
-put-sorts-requires : tie.Need-put-sorts-requires
-put-sorts-requires c κs = search needs
+put-sections-requires : tie.Need-put-sections-requires
+put-sections-requires c κs = search needs
 
 same-length : tie.Need-same-length
 same-length c = search needs
@@ -48,7 +48,7 @@ returns-2 c =
     let t = s .store .ensures .1 ∙ stored-137 _ _ (omega (arith, h)) in
     let q = p .paste .ensures ∙ pasted-room _ _ _ (omega (arith, h, s .store .kept)) in
     let w = all-written a (start .args .words .now) (owned-64 (a .tokenizer) (o .1 .1 .0)) (owned-65 a o) in
-    (sym e, rw e (c .before .before .put-sorts .ensures ∙ rw (q, m .middle .ensures, t) w))
+    (sym e, rw e (c .before .before .put-sections .ensures ∙ rw (q, m .middle .ensures, t) w))
 
 pub store-parser-spec : {M : Type 1} → statement M
 store-parser-spec =
@@ -59,6 +59,6 @@ store-parser-spec =
     store-requires
     slice-aggregate-paste
     paste-requires
-    put-sorts-requires
+    put-sections-requires
     same-length
     returns-2)

@@ -5,6 +5,12 @@ use borrow.Author.Needs.{needs}
 use Rattle.step_words.proofs.outcome.outcome_of.Statement.{statement}
 use Rattle.step_words.proofs.outcome.outcome_of.Tie as tie
 
+element-copy-out-awaited : tie.Need-element-copy-out-awaited
+element-copy-out-awaited c = search needs
+
+element-copy-out-line : tie.Need-element-copy-out-line
+element-copy-out-line c = search needs
+
 enum-told : tie.Need-enum-told
 enum-told c = search needs
 
@@ -28,6 +34,15 @@ gives-requires-2 c κs = search needs
 
 enum-told-4 : tie.Need-enum-told-4
 enum-told-4 c = search needs
+
+element-copy-out-opened-at : tie.Need-element-copy-out-opened-at
+element-copy-out-opened-at c = search needs
+
+opened-at-requires : tie.Need-opened-at-requires
+opened-at-requires c κs = search needs
+
+carry-requires : tie.Need-carry-requires
+carry-requires c κs = search needs
 
 gives-requires-3 : tie.Need-gives-requires-3
 gives-requires-3 c κs = search needs
@@ -66,7 +81,7 @@ enum-known-v : tie.Need-enum-known-v
 enum-known-v c = search needs
 
 add-say : tie.Need-add-say
-add-say c = let h = c .before .before .before in omega (arith, subst Few (c .before .v .given .1) (h .pre))
+add-say c = let h = c .before .before .before .before .before in omega (arith, subst Few (c .before .v .given .1) (h .pre))
 
 say-requires-2 : tie.Need-say-requires-2
 say-requires-2 c κs = search needs
@@ -115,7 +130,9 @@ returns-3 c = rw (c .gives2 .ensures, c .before .enum-told3 .given .1)
 
 returns-4 : tie.Need-returns-4
 unfolding outcomeBy
-returns-4 c = rw (c .gives3 .ensures, c .before .enum-told4 .given .1)
+returns-4 c =
+    let o = c .before .before in
+    rw (c .gives3 .ensures, c .before .carry .ensures, o .opened-at .ensures, o .before .before .enum-told4 .given .1)
 
 returns-5 : tie.Need-returns-5
 unfolding outcomeBy
@@ -159,6 +176,8 @@ pub outcome-of-spec : {M : Type 1} → statement M
 outcome-of-spec =
     tie.close
     (tie.spec
+    element-copy-out-awaited
+    element-copy-out-line
     enum-told
     gives-requires
     enum-told-2
@@ -167,6 +186,9 @@ outcome-of-spec =
     enum-told-3
     gives-requires-2
     enum-told-4
+    element-copy-out-opened-at
+    opened-at-requires
+    carry-requires
     gives-requires-3
     enum-told-5
     gives-requires-4

@@ -15,15 +15,15 @@ slice-aggregate-paste c = search needs
 paste-requires : tie.Need-paste-requires
 paste-requires c κs = search needs
 
-put-sort-requires : tie.Need-put-sort-requires
-put-sort-requires c κs = search needs
+put-section-requires : tie.Need-put-section-requires
+put-section-requires c κs = search needs
 
 returns : tie.Need-returns
 unfolding outcomeIn
 returns c =
     let p = c .before .before in
     let k = p .before .before .before in
-    rw (c .put-sort .ensures, p .paste .ensures, k .count-after .ensures, k .before .flag-of .ensures)
+    rw (c .put-section .ensures, p .paste .ensures, k .count-after .ensures, k .before .flag-of .ensures)
 
 pub put-outcome-spec : {M : Type 1} → statement M
 put-outcome-spec =
@@ -33,5 +33,5 @@ put-outcome-spec =
     count-after-requires
     slice-aggregate-paste
     paste-requires
-    put-sort-requires
+    put-section-requires
     returns)

@@ -8,7 +8,7 @@ use Rattle.parser.specs.Step.{ChangeFits}
 use Rattle.tokenizer_words.specs.Words.{pastedIn}
 use Rattle.step_words.specs.Fronts.{committed}
 use Rattle.step_words.specs.Outcomes.{Few, outcomeBy}
-use Rattle.step_words.specs.Stepping.{cameIn, judgedIn, outcomeFor, leftIn, goneBy, stepIn, stopsAt, rowIn, Gone}
+use Rattle.step_words.specs.Stepping.{cameIn, openedAt, judgedIn, outcomeFor, leftIn, goneBy, stepIn, stopsAt, rowIn, Gone}
 use Rattle.step_words.specs.declared.outcome.Outcome.{Outcome}
 use Rattle.step_words.specs.declared.step.Layer.{Layer}
 use Rattle.step_words.proofs.Judgements.{Sound, sound, few, change-fits}
@@ -18,7 +18,7 @@ use Rattle.step_words.proofs.step.step_in.Statement.{statement}
 use Rattle.step_words.proofs.step.step_in.Tie as tie
 
 abbrev start : tie.After-outcome-of → tie.Start
-start c = c .before .before .before .before .before .before .before .before .before .before .before .before .before
+start c = c .before .before .before .before .before .before .before .before .before .before .before .before
 
 abbrev doc : tie.After-outcome-of → List ℕ
 doc c = start c .args .doc .now
@@ -31,24 +31,25 @@ layer c = start c .args .layer
 
 abbrev came : tie.After-outcome-of → Advanced
 came c =
-    let came = c .before .before .before .before .before .before .came in
+    let came = c .before .before .before .before .before .came in
     came .result
 
 -- what came, and what it leaves
 comes : (c : tie.After-outcome-of) → came c ≡ cameIn (layer c) (doc c) (words c)
 comes c =
-    let came = c .before .before .before .before .before .before .came in
+    let came = c .before .before .before .before .before .came in
     came .ensures
 
 left : (c : tie.After-outcome-of) → c .outcome-of .result ≡ outcomeFor (layer c) (came c .said) (words c)
 left c =
-    let judged = c .before .before .before .judged in
-    c .outcome-of .ensures ∙ ap (λ v. outcomeBy v (came c .said) (getD (words c) 138 0) (getD (words c) 139 0)) (judged .ensures)
+    let w = words c in
+    c .outcome-of .ensures
+    ∙ ap (λ v. outcomeBy v (came c .said) (getD w 138 0) (getD w 139 0) (openedAt (getD w 147 0) w)) (c .before .before .judged .ensures)
 
 does : (c : tie.After-outcome-of) → stepIn (layer c) (doc c) (words c) ≡ goneBy (layer c) (came c) (c .outcome-of .result) (words c)
 does c =
-    let is-refused = c .before .before .before .before .before .before .before .before .before .is-refused in
-    let if1 = c .before .before .before .before .before .before .before .before .if1 in
+    let is-refused = c .before .before .before .before .before .before .before .before .is-refused in
+    let if1 = c .before .before .before .before .before .before .before .if1 in
     goes (layer c) (doc c) (words c) (sym (is-refused .ensures) ∙ if1 .left)
     ∙ ap (λ (m : Advanced). goneBy (layer c) m (outcomeFor (layer c) (m .said) (words c)) (words c)) (sym (comes c))
     ∙ ap (λ o. goneBy (layer c) (came c) o (words c)) (sym (left c))
@@ -69,18 +70,12 @@ came-requires c κs = search needs
 judged-requires : tie.Need-judged-requires
 judged-requires c κs = search needs
 
-element-copy-out-outcome-of : tie.Need-element-copy-out-outcome-of
-element-copy-out-outcome-of c = search needs
-
-element-copy-out-outcome-of-2 : tie.Need-element-copy-out-outcome-of-2
-element-copy-out-outcome-of-2 c = search needs
-
 outcome-of-requires : tie.Need-outcome-of-requires
 outcome-of-requires c κs =
-    let came = c .before .before .before .before .before .came in
-    let v = c .before .before .judged in
+    let came = c .before .before .before .before .came in
+    let v = c .before .judged in
     let k = came .result .said .number in
-    let a = c .before .before .before .before .before .before .before .before .before .before .before .before .args in
+    let a = c .before .before .before .before .before .before .before .before .before .before .before .args in
     subst Few (sym (v .ensures)) (few (getD (a .w .now) 147 0) (judgedIn (a .layer) k (a .w .now)) (sound (a .layer) k (a .w .now)))
 
 stops-requires : tie.Need-stops-requires
@@ -114,7 +109,7 @@ leave-requires : tie.Need-leave-requires
 leave-requires c κs =
     let m = c .before .before .before .before .before .before .before .before .before .before .before .before .before in
     subst (λ (o : Outcome). ChangeFits (o .change) (getD (words m) 147 0)) (sym (m .outcome-of .ensures))
-    (change-fits _ _ _ _ _ (subst (Sound (getD (words m) 147 0)) (sym (m .before .before .before .judged .ensures)) (sound (layer m) _ (words m))))
+    (change-fits _ _ _ _ _ _ (subst (Sound (getD (words m) 147 0)) (sym (m .before .before .judged .ensures)) (sound (layer m) _ (words m))))
 
 same-length : tie.Need-same-length
 same-length c = search needs
@@ -147,8 +142,6 @@ step-in-spec =
     returns
     came-requires
     judged-requires
-    element-copy-out-outcome-of
-    element-copy-out-outcome-of-2
     outcome-of-requires
     stops-requires
     returns-2
