@@ -34,7 +34,7 @@ use Rattle.tokenizer_words.proofs.Standing.{slots-64}
 use Rattle.tokenizer_words.proofs.Slotted.{step-slots}
 use Rattle.parser_words.specs.ParserWords.{sortWord, sectionWords, keptWords}
 use Rattle.step_words.specs.Fronts.{committed}
-use Rattle.step_words.specs.Stepping.{keptNumber, cameIn, sortAt, openedAt}
+use Rattle.step_words.specs.Stepping.{keptNumber, cameIn, innermostAt, sortAt, openedAt}
 use Rattle.step_words.specs.declared.step.Layer.the-variants.{Parser}
 use Rattle.step_words.proofs.Fronts.{stepped, step-committed}
 use Rattle.parser_words.proofs.Sections.{section-at}
@@ -52,15 +52,17 @@ module _ (l : List Section) (w r : List ℕ) (e : drop 148 w ≡ sectionWords l 
   at-148 i = sym (getD-drop 148 w i 0) ∙ ap (λ x. getD x i 0) e
 
   pub sort-is : (n : ℕ) → sortAt n w ≡ sortNumber (innermostOf l n)
-  unfolding sortAt innermostOf
+  unfolding innermostAt innermostOf
   sort-is zero = refl
   sort-is (suc k) =
       by-bool (ltb k 65)
-      (λ q. let h = ltb-true k 65 q in rw q (at-148 (2 * k) ∙ section-at l r k noSort (omega arith) .0 ∙ of-sort (getD l k noSort .sort) (getD l k noSort .line)))
+      (λ q.
+      let h = ltb-true k 65 q in
+      rw q (at-148 (2 * k) ∙ section-at l r k noSort (omega arith) .0 ∙ of-sort (getD l k noSort .sort) (getD l k noSort .line)))
       (λ q. rw q)
 
   pub opened-is : (n : ℕ) → openedAt n w ≡ openedLine (innermostOf l n)
-  unfolding openedAt innermostOf
+  unfolding innermostAt innermostOf
   opened-is zero = refl
   opened-is (suc k) =
       by-bool (ltb k 65)

@@ -44,15 +44,18 @@ cameIn layer d w =
     cond (eqb (keptNumber layer w) 0) (aheadOf d (stateIn w))
     (record { said = keptSaid w; front = frontOf (stateIn w); change = Keep; indent = noPart })
 
--- the innermost section's sort, n being open; 3 where there is none
-unfoldable pub sortAt : ℕ → List ℕ → ℕ
-sortAt zero w = 3
-sortAt (suc n) w = cond (ltb n 65) (getD w (148 + 2 * n) 0) 3
+-- a word of the innermost section, n being open: its sort where k is 0, its line where k is 1; z where there is none
+unfoldable pub innermostAt : ℕ → ℕ → ℕ → List ℕ → ℕ
+innermostAt k z zero w = z
+innermostAt k z (suc n) w = cond (ltb n 65) (getD w (148 + k + 2 * n) 0) z
+
+-- its sort; 3 where there is none
+abbrev pub sortAt : ℕ → List ℕ → ℕ
+sortAt n w = innermostAt 0 3 n w
 
 -- the line of the key or item that opened it; 0 where there is none
-unfoldable pub openedAt : ℕ → List ℕ → ℕ
-openedAt zero w = 0
-openedAt (suc n) w = cond (ltb n 65) (getD w (149 + 2 * n) 0) 0
+abbrev pub openedAt : ℕ → List ℕ → ℕ
+openedAt n w = innermostAt 1 0 n w
 
 -- what is judged of an answer of that number: the tokenizer gives all but End on
 unfoldable pub judgedIn : Layer → ℕ → List ℕ → Judged

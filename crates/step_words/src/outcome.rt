@@ -7,11 +7,12 @@ use tokenizer::Said;
 use tokenizer_words::flag_of;
 use tokenizer_words::paste;
 ghost use mathlib.Core.Path.{_≡_};
+ghost use Prim.Native.Nat.{_≤_};
 ghost use Rattle.tokenizer.specs.Token.{bare};
 ghost use Rattle.tokenizer.specs.Front.{saidBy};
 ghost use Rattle.parser.specs.Step.{ChangeFits, countAfter};
 ghost use lib.ListN.{getD};
-ghost use Rattle.step_words.specs.Stepping.{openedAt};
+ghost use Rattle.step_words.specs.Stepping.{innermostAt, openedAt};
 ghost use Rattle.step_words.specs.Outcomes.{Few, carrying, given, denied, keptBy, outcomeBy, sectionPut, outcomeIn};
 
 // The answer, whether it is a refusal, what is awaited with its line, what is kept, and what becomes of the sections.
@@ -89,17 +90,18 @@ fn keep(s: Said) -> Said
     s
 }
 
-// The line of the key or item that opened the innermost section; 0 where there is none.
-fn opened_at(count: usize, w: &[usize; 278]) -> usize
-    ensures { λ r. ⌜ r ≡ openedAt count (now (w .entry)) ⌝ }
+// A word of the innermost section: its sort where k is 0, its line where k is 1; none where there is none.
+pub(crate) fn innermost_at(k: usize, none: usize, count: usize, w: &[usize; 278]) -> usize
+    requires { ⌜ k ≤ 1 ⌝ }
+    ensures { λ r. ⌜ r ≡ innermostAt k none count (now (w .entry)) ⌝ }
 {
     if count == 0 {
-        return 0;
+        return none;
     }
     if 65 < count {
-        return 0;
+        return none;
     }
-    w[147 + 2 * count]
+    w[146 + k + 2 * count]
 }
 
 // What a judgement leaves, s having come to the words' state. The innermost section's line is read only where it closes.
@@ -120,7 +122,7 @@ pub(crate) fn outcome_of(v: Judged, s: Said, w: &[usize; 278]) -> Outcome
             change: Change::Keep,
         },
         Judged::Opens => gives(s, 0, 0, Change::Open(line)),
-        Judged::Closes => gives(carry(opened_at(w[147], w), s), 0, 0, Change::Close),
+        Judged::Closes => gives(carry(innermost_at(1, 0, w[147], w), s), 0, 0, Change::Close),
         Judged::Map => gives(s, 1, s.line, Change::Fix(Sort::Map)),
         Judged::List => gives(s, 1, s.line, Change::Fix(Sort::List)),
         Judged::Hint => gives(s, 2, line, Change::Keep),

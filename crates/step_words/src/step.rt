@@ -3,6 +3,7 @@ use crate::front::commit;
 use crate::front::front_in;
 use crate::front::inner_in;
 use crate::outcome::Outcome;
+use crate::outcome::innermost_at;
 use crate::outcome::outcome_of;
 use crate::outcome::put_outcome;
 use crate::outcome::say;
@@ -23,7 +24,6 @@ ghost use Rattle.step_words.specs.Stepping.{
   keptNumber,
   keptSaid,
   cameIn,
-  sortAt,
   judgedIn,
   stopsAt,
   leftIn,
@@ -94,19 +94,6 @@ fn came(doc: &[u8], layer: Layer, w: &[usize; 278]) -> Advanced
     }
 }
 
-// The innermost section's sort; 3 where there is none.
-fn sort_at(count: usize, w: &[usize; 278]) -> usize
-    ensures { λ r. ⌜ r ≡ sortAt count (now (w .entry)) ⌝ }
-{
-    if count == 0 {
-        return 3;
-    }
-    if 65 < count {
-        return 3;
-    }
-    w[146 + 2 * count]
-}
-
 // What is made of an answer of that number; the tokenizer gives all but End on.
 fn judged(layer: Layer, number: usize, w: &[usize; 278]) -> Judged
     ensures { λ r. ⌜ r ≡ judgedIn layer number (now (w .entry)) ⌝ }
@@ -121,7 +108,7 @@ fn judged(layer: Layer, number: usize, w: &[usize; 278]) -> Judged
         }
         Layer::Parser => {
             let count = w[147];
-            let sort = sort_at(count, w);
+            let sort = innermost_at(0, 3, count, w);
             let v = judge(number, w[138], sort, 65 <= count);
             v
         }

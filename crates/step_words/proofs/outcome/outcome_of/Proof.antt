@@ -35,11 +35,11 @@ gives-requires-2 c κs = search needs
 enum-told-4 : tie.Need-enum-told-4
 enum-told-4 c = search needs
 
-element-copy-out-opened-at : tie.Need-element-copy-out-opened-at
-element-copy-out-opened-at c = search needs
+element-copy-out-innermost-at : tie.Need-element-copy-out-innermost-at
+element-copy-out-innermost-at c = search needs
 
-opened-at-requires : tie.Need-opened-at-requires
-opened-at-requires c κs = search needs
+innermost-at-requires : tie.Need-innermost-at-requires
+innermost-at-requires c κs = search needs
 
 carry-requires : tie.Need-carry-requires
 carry-requires c κs = search needs
@@ -132,7 +132,7 @@ returns-4 : tie.Need-returns-4
 unfolding outcomeBy
 returns-4 c =
     let o = c .before .before in
-    rw (c .gives3 .ensures, c .before .carry .ensures, o .opened-at .ensures, o .before .before .enum-told4 .given .1)
+    rw (c .gives3 .ensures, c .before .carry .ensures, o .innermost-at .ensures, o .before .before .enum-told4 .given .1)
 
 returns-5 : tie.Need-returns-5
 unfolding outcomeBy
@@ -186,8 +186,8 @@ outcome-of-spec =
     enum-told-3
     gives-requires-2
     enum-told-4
-    element-copy-out-opened-at
-    opened-at-requires
+    element-copy-out-innermost-at
+    innermost-at-requires
     carry-requires
     gives-requires-3
     enum-told-5

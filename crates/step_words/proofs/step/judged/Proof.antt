@@ -13,8 +13,8 @@ enum-told-2 c = search needs
 element-copy-out-count : tie.Need-element-copy-out-count
 element-copy-out-count c = search needs
 
-sort-at-requires : tie.Need-sort-at-requires
-sort-at-requires c κs = search needs
+innermost-at-requires : tie.Need-innermost-at-requires
+innermost-at-requires c κs = search needs
 
 element-copy-out-judge : tie.Need-element-copy-out-judge
 element-copy-out-judge c = search needs
@@ -32,7 +32,7 @@ returns-2 c = rw (c .before .enum-told .given .1, ne-eqb _ _ (c .if1 .left))
 
 returns-3 : tie.Need-returns-3
 unfolding judgedIn
-returns-3 c = let k = c .before .before in rw (k .before .before .enum-told2 .given .1, ← k .sort-at .ensures) (c .judge .ensures)
+returns-3 c = let k = c .before .before in rw (k .before .before .enum-told2 .given .1, ← k .innermost-at .ensures) (c .judge .ensures)
 
 pub judged-spec : {M : Type 1} → statement M
 judged-spec =
@@ -41,7 +41,7 @@ judged-spec =
     enum-told
     enum-told-2
     element-copy-out-count
-    sort-at-requires
+    innermost-at-requires
     element-copy-out-judge
     judge-requires
     returns
