@@ -1,13 +1,9 @@
--- The lines that Outdents carry, computed from the rules: by the parser, and anew from a list in which all are 0. The listing of
--- document 01, with one Outdent, is in the parser's Examples.
+-- The lines that Outdents carry, written anew from a list in which all are 0. That the parser gives these is in its own Examples.
 use Prim.Native.Nat.{ℕ}
 use mathlib.Core.Path.{_≡_, refl}
 use mathlib.Core.List.{List, [], _∷_}
-use Rattle.text.specs.Ascii.{ascii}
 use Rattle.text.specs.Bytes.{part}
 use Rattle.tokenizer.specs.declared.token.Token.the-variants.{Newline, Indent, Outdent, ListItem, MapKey, Value}
-use Rattle.parser.specs.Lists.{parse}
-use Rattle.parser.proofs.Examples.{rules}
 use Rattle.parser_rules.specs.declared.ruling.Answer.{Answer}
 use Rattle.parser_rules.specs.declared.ruling.Answer.the-variants.{Token}
 use Rattle.parser_claims.specs.Opened.{reopened}
@@ -31,10 +27,6 @@ nested i o =
     ∷ []
 
 -- the inner section is of the key `a` on line 2, the outer one of the item on line 1
-pub nested-parsed : parse (ascii "=\n a\n  b=1\n c=2") ≡ nested 2 1
-unfolding rules
-nested-parsed = refl
-
 pub nested-reopened : reopened 0 [] (nested 0 0) ≡ nested 2 1
 unfolding reopened
 nested-reopened = refl
