@@ -15,7 +15,7 @@ pub enum Token<'tok> {
     /// A section opens. Its first [Token::MapKey] or [Token::ListItem] says whether it is a map or a
     /// list.
     Indent(usize),
-    /// The innermost section closes.
+    /// The innermost section closes; [Parser::opened](crate::Parser::opened) says which entry that was.
     Outdent(usize),
     /// An item of a list. What comes next, but for newlines, comments and a hint, is its value: a
     /// [Token::Value], a [Token::MultilineValue], a section, or [Token::NoValue].
