@@ -1,6 +1,6 @@
--- The parser over a raised list says what it says of the list, raised: a ruling looks at no line and no place. Of the sections only
--- the top level's keeps its line, 0. Two answers would not be raised: 15, whose line is 0, and an Outdent that closes the top level
--- and so carries 0. So the list is one that has neither.
+-- The parser over a raised list says what it says of the list, raised: a ruling looks at no line and no place. Of the
+-- sections only the top level's keeps its line, 0. Two answers would not be raised: 15, whose line is 0, and an Outdent
+-- that closes the top level and so carries 0. So the list is one that has neither.
 use Prim.Native.Nat.{ℕ, _+_}
 use mathlib.Core.Path.{_≡_, refl, sym, ap}
 use mathlib.Core.List.{List, [], _∷_, _++_, map, map-append}

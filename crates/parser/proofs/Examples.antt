@@ -1,5 +1,5 @@
--- The rows marked P of document 01's 'Layouts on the test strip' that concern the parser, its listing, and the lines that Outdents
--- carry, computed from the rules.
+-- The rows marked P of document 01's 'Layouts on the test strip' that concern the parser, its listing, and the lines
+-- that Outdents carry, computed from the rules.
 use Prim.Native.Nat.{ℕ}
 use mathlib.Core.Path.{_≡_, refl}
 use mathlib.Core.List.{List, [], _∷_}

@@ -1,5 +1,5 @@
--- The parser's answers of equal values are equal: they have the shape of the tokenizer's, and the line that an answer carries
--- is a value of its own.
+-- The parser's answers of equal values are equal: they have the shape of the tokenizer's, and the line that an answer
+-- carries is a value of its own.
 use Prim.Native.Nat.{ℕ}
 use mathlib.Core.Path.{_≡_, refl, sym, ap, _∙_}
 use Rattle.tokenizer.specs.Token.{tokenValues}

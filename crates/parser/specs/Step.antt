@@ -1,5 +1,5 @@
--- Law: document 01, 'Parser', and document 02, request 5, the line that a section's record keeps: the state, and the step
--- over it. 12, then 15, then End once refused, then the rules.
+-- Law: document 01, 'Parser', and document 02, request 5, the line that a section's record keeps: the state, and the
+-- step over it. 12, then 15, then End once refused, then the rules.
 use Prim.Native.Nat.{ℕ, zero, suc, _+_, _-_, _≤_, _<_}
 use mathlib.Core.List.{List}
 use mathlib.Core.Bool.{Bool, true, false, cond}

@@ -1,4 +1,5 @@
--- The lines that Outdents carry, written anew from a list in which all are 0. That the parser gives these is in its own Examples.
+-- The lines that Outdents carry, written anew from a list in which all are 0. That the parser gives these is in its own
+-- Examples.
 use Prim.Native.Nat.{ℕ}
 use mathlib.Core.Path.{_≡_, refl}
 use mathlib.Core.List.{List, [], _∷_}

@@ -1,5 +1,5 @@
--- What the parser makes of a token that came, as the list goes by it: it gives the token on, or stops, or says NoValue first. And
--- what a token that is given on carries, makes awaited, and does to the sections.
+-- What the parser makes of a token that came, as the list goes by it: it gives the token on, or stops, or says NoValue
+-- first. And what a token that is given on carries, makes awaited, and does to the sections.
 use Prim.Native.Nat.{ℕ, _<_}
 use mathlib.Core.Path.{_≡_, refl}
 use mathlib.Core.Bool.{false}

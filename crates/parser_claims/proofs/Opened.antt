@@ -1,5 +1,5 @@
--- The line that an Outdent carries. Along a reading the sections above the top level keep the lines of the keys and items that
--- opened them; and an Outdent of the tokenizer finds a section open, so that it never closes the top level.
+-- The line that an Outdent carries. Along a reading the sections above the top level keep the lines of the keys and
+-- items that opened them; and an Outdent of the tokenizer finds a section open, so that it never closes the top level.
 use Prim.Native.Nat.{ℕ, suc, _≤_, _<_}
 use mathlib.Core.Path.{_≡_, refl, sym, ap, _∙_}
 use mathlib.Core.List.{List, [], _∷_}

@@ -1,5 +1,5 @@
--- The parser's record of sections, an array and a count, shows a list of sections, the innermost first: it gives the same
--- innermost section, and a change to it shows the changed list as long as that has at most 65.
+-- The parser's record of sections, an array and a count, shows a list of sections, the innermost first: it gives the
+-- same innermost section, and a change to it shows the changed list as long as that has at most 65.
 use Prim.Native.Nat.{ℕ, suc, _-_, _≤_, _<_}
 use mathlib.Core.Path.{_≡_, refl, ap, _∙_}
 use mathlib.Core.List.{List, [], _∷_}

@@ -1,7 +1,7 @@
--- What each answer of the tokenizer tells the parser: which mark it needs, what its step leaves of the marks and the open
--- sections, and what it spends. A Value or hint needs the value mark, which only a key or item sets, and a multiline value the
--- multiline mark, which only a hint sets; an Indent finds fewer than 64 sections open, an Outdent at least one; a key or item has
--- a line. One walk through the leaves of the plan shows it.
+-- What each answer of the tokenizer tells the parser: which mark it needs, what its step leaves of the marks and the
+-- open sections, and what it spends. A Value or hint needs the value mark, which only a key or item sets, and a
+-- multiline value the multiline mark, which only a hint sets; an Indent finds fewer than 64 sections open, an Outdent
+-- at least one; a key or item has a line. One walk through the leaves of the plan shows it.
 use Prim.Native.Nat.{ℕ, suc, _+_, _*_, _-_, _≤_, _<_}
 use mathlib.Core.Path.{_≡_, refl, sym, ap, _∙_}
 use mathlib.Core.List.{List, [], _∷_}

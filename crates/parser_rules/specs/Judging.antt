@@ -70,8 +70,8 @@ afterHintBy n = cond (eqb n 1) GivesOn (cond (eqb n 2) GivesOn (cond (eqb n 9) V
 unfoldable pub judgedBy : ℕ → ℕ → ℕ → Bool → Judged
 judgedBy n a s full = cond (leb (refusalNumber 0) n) Passes (cond (eqb a 1) (afterEntryBy n full) (cond (eqb a 2) (afterHintBy n) (settledBy n s)))
 
--- the ruling that is meant, a being what was awaited, o the innermost section's line, t the token that came and k what is
--- kept of it
+-- the ruling that is meant, a being what was awaited, o the innermost section's line, t the token that came and k what
+-- is kept of it
 unfoldable pub madeBy : Judged → Awaited → ℕ → Token → Kept → Ruling
 madeBy GivesOn a o t k = givesOn t a change.Keep
 madeBy NoValue a o t k = noValue (awaitedLine a) k

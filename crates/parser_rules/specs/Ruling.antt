@@ -1,5 +1,5 @@
--- Law: document 01, 'Parser', and document 02, request 5, the line that an Outdent carries: what the parser makes of one
--- answer of the tokenizer, as a ruling that knows neither the document nor the record of sections.
+-- Law: document 01, 'Parser', and document 02, request 5, the line that an Outdent carries: what the parser makes of
+-- one answer of the tokenizer, as a ruling that knows neither the document nor the record of sections.
 use Prim.Native.Nat.{ℕ}
 use mathlib.Core.Bool.{Bool, true, false, cond}
 use Rattle.text.specs.Numbers.{missingMultiline, unexpectedKey, unexpectedItem, unexpectedIndent}

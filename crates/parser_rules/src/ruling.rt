@@ -8,8 +8,8 @@ ghost use Rattle.tokenizer.specs.Token.{tokenValues};
 ghost use Rattle.parser_rules.specs.Ruling.{gives, refuses, noValue, rulingOf};
 ghost use Rattle.parser_rules.specs.Judging.{sortNumber, openedLine, awaitedNumber, awaitedLine, madeBy};
 
-// The parser's own answer: a token, with the line of the key or item whose section an Outdent closes, 0 for every other kind; or
-// a refusal with its number and line.
+// The parser's own answer: a token, with the line of the key or item whose section an Outdent closes, 0 for every other
+// kind; or a refusal with its number and line.
 pub enum Answer {
     End,
     Token(Token, usize),
@@ -37,14 +37,15 @@ pub enum Kept {
     Token(Token),
 }
 
-// The sort of the innermost section, and the line of the key or item that opened it; missing where the record of sections is empty.
+// The sort of the innermost section, and the line of the key or item that opened it; missing where the record of
+// sections is empty.
 pub enum Innermost {
     Missing,
     Of(Sort, usize),
 }
 
-// What becomes of the record of sections: nothing, the innermost one's sort is fixed, one opens for the key or item of that line,
-// the innermost closes.
+// What becomes of the record of sections: nothing, the innermost one's sort is fixed, one opens for the key or item of
+// that line, the innermost closes.
 pub enum Change {
     Keep,
     Fix(Sort),

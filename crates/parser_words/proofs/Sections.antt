@@ -1,4 +1,5 @@
--- The sections, two words each: one more sort is tested, one more section written; and the words of a whole parser's state.
+-- The sections, two words each: one more sort is tested, one more section written; and the words of a whole parser's
+-- state.
 use Prim.Native.Nat.{ℕ, zero, suc, _+_, _*_, _≤_, _<_}
 use mathlib.Core.Path.{_≡_, refl, ap, _∙_}
 use mathlib.Core.List.{List, [], _∷_, _++_, append-assoc}

@@ -1,8 +1,8 @@
 -- The port's own, not document 01's, and told in include/conl.h: a parser's state in the words of a lent slice. The
 -- tokenizer's 137; whether it has refused (0 or 1); what is awaited (0 nothing, 1 a value, 2 a multiline value) with
 -- its line; a row for what is kept (number 0 for nothing, 11 for End); the number of open sections, and of each of the
--- 65 its sort (0 unset, 1 map, 2 list) and the line of the key or item that opened it. 278 words. proofs/Back shows that
--- the state is read back from them.
+-- 65 its sort (0 unset, 1 map, 2 list) and the line of the key or item that opened it. 278 words. proofs/Back shows
+-- that the state is read back from them.
 use Prim.Native.Nat.{ℕ, zero, suc, _+_, _*_}
 use mathlib.Core.List.{List, [], _∷_, _++_}
 use mathlib.Core.Bool.{Bool, true, cond, _&&_}
@@ -87,7 +87,8 @@ unfoldable pub areSorts : ℕ → List ℕ → Bool
 areSorts zero w = true
 areSorts (suc n) w = leb (getD w 0 0) 2 && areSorts n (drop 2 w)
 
--- the words are a parser's state: there are 278, and each is one that stands for something; else they are an unfit state, 15
+-- the words are a parser's state: there are 278, and each is one that stands for something; else they are an unfit
+-- state, 15
 unfoldable pub parserReadable : List ℕ → Bool
 parserReadable w =
     leb parserSize (length w)

@@ -104,7 +104,8 @@ pub(crate) fn innermost_at(k: usize, none: usize, count: usize, w: &[usize; 278]
     w[146 + k + 2 * count]
 }
 
-// What a judgement leaves, s having come to the words' state. The innermost section's line is read only where it closes.
+// What a judgement leaves, s having come to the words' state. The innermost section's line is read only where it
+// closes.
 pub(crate) fn outcome_of(v: Judged, s: Said, w: &[usize; 278]) -> Outcome
     requires { ⌜ Few v ⌝ }
     ensures { λ r. ⌜ r ≡ outcomeBy v s (getD (now (w .entry)) 138 0) (getD (now (w .entry)) 139 0) (openedAt (getD (now (w .entry)) 147 0) (now (w .entry))) ⌝ }
