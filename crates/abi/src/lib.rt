@@ -12,7 +12,7 @@ ghost use Rattle.parser_words.specs.ParserWords.{parserSize, freshParserIn};
 ghost use Rattle.batches.specs.Batch.{parseBatchOf};
 ghost use Rattle.answer_words.specs.Texts.{textOf};
 ghost use Rattle.answer_words.specs.Given.{givenTextOf};
-ghost use Rattle.answer_words.specs.Found.{foundIn};
+ghost use Rattle.found_words.specs.Found.{foundIn};
 ghost use Rattle.abi.specs.Lent.{whichOf, partIn};
 ghost use Rattle.abi.specs.Version.{version};
 
@@ -147,5 +147,5 @@ pub extern "C" fn conl_look_up(doc: &[u8], wanted: &[u8], answer: &mut [usize]) 
     ensures { λ r. ⌜ r ≡ leb 5 (length (now (answer .entry))) ⌝ }
     ensures { λ r. ⌜ now (answer .exit) ≡ foundIn (now (doc .entry)) (now (wanted .entry)) (now (answer .entry)) ⌝ }
 {
-    answer_words::look_up(doc, wanted, answer)
+    found_words::look_up(doc, wanted, answer)
 }

@@ -15,12 +15,8 @@ use Rattle.unescape_source.specs.Source.{sourceIn}
 use Rattle.unescape.specs.Unescape.{unescapeOf}
 use Rattle.unescape.specs.declared.Answer.{Answer}
 use Rattle.unescape.specs.declared.Answer.the-variants as answer
-use Rattle.look_up.specs.declared.search.Found.{Found}
-use Rattle.look_up.specs.declared.search.Found.the-variants as found
-use Rattle.look_up.proofs.Searched.{look-up-over}
 use Rattle.answer_words.specs.Texts.{answerWords, isToken, hasAnswer, textOf}
-use Rattle.answer_words.specs.Found.{foundWords, foundIn}
-use Rattle.answer_words.specs.Claims.{RowsUnescaped, TextsOver, FoundOver, NoRoom, NoToken, AnswersTold, FoundTold, Layout}
+use Rattle.answer_words.specs.Claims.{RowsUnescaped, TextsOver, NoRoom, NoToken, AnswersTold, Layout}
 
 and-false : (b : Bool) → (b && false) ≡ false
 and-false true = refl
@@ -54,10 +50,6 @@ pub texts-over : TextsOver
 unfolding textOf unescapeOf sourceIn answerWords
 texts-over d r o w l h = rw (lt-ltb 16777216 (length d) l, le-leb 5 (length w) h)
 
-pub found-over : FoundOver
-unfolding foundIn foundWords
-found-over d k a l h = rw (le-leb 5 (length a) h, look-up-over d k l)
-
 pub no-token : NoToken
 unfolding textOf
 no-token d r o w l e = rw (le-ltb 16777216 (length d) l, e)
@@ -85,19 +77,6 @@ answer-back (answer.Refused n l p) = refl
 pub answers-told : AnswersTold
 answers-told a b e = sym (answer-back a) ∙ ap answerIn e ∙ answer-back b
 
-abbrev foundAs : List ℕ → Found
-foundAs w =
-    getD (found.Nothing ∷ found.At (getD w 2 0) (partIn w) ∷ found.Refused (getD w 1 0) (getD w 2 0) ∷ []) (getD w 0 0) found.Nothing
-
-found-back : (f : Found) → foundAs (foundWords f) ≡ f
-unfolding foundWords
-found-back found.Nothing = refl
-found-back (found.At l p) = refl
-found-back (found.Refused n l) = refl
-
-pub found-told : FoundTold
-found-told a b e = sym (found-back a) ∙ ap foundAs e ∙ found-back b
-
 pub layout : Layout
-unfolding answerWords foundWords
-layout = record { plain = refl; written = refl; refused = refl; nothing = refl; found-at = refl; found-refused = refl }
+unfolding answerWords
+layout = record { plain = refl; written = refl; refused = refl }

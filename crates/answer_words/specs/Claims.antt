@@ -13,10 +13,7 @@ use Rattle.tokenizer_rows.specs.Rows.{rowOf}
 use Rattle.unescape.specs.Unescape.{unescapeOf}
 use Rattle.unescape.specs.declared.Answer.{Answer}
 use Rattle.unescape.specs.declared.Answer.the-variants as answer
-use Rattle.look_up.specs.declared.search.Found.{Found}
-use Rattle.look_up.specs.declared.search.Found.the-variants as found
 use Rattle.answer_words.specs.Texts.{answerSize, answerWords, isToken, textOf}
-use Rattle.answer_words.specs.Found.{foundWords, foundIn}
 
 -- a token's row, with its last word or without it, is unescaped as the token is, with every buffer
 abbrev pub RowsUnescaped : Type 0
@@ -34,9 +31,6 @@ TextsOver =
     (d r o w : List ℕ) → maxDocument < length d → answerSize ≤ length w
     → textOf d r o w ≡ record { result = true; buffer = o; words = 2 ∷ tooLong ∷ 0 ∷ 0 ∷ 0 ∷ drop answerSize w }
 
-abbrev pub FoundOver : Type 0
-FoundOver = (d k a : List ℕ) → maxDocument < length d → answerSize ≤ length a → foundIn d k a ≡ 2 ∷ tooLong ∷ 0 ∷ 0 ∷ 0 ∷ drop answerSize a
-
 -- nothing is written where there is no room for an answer, or, within the limit, where the row is no token's
 abbrev pub NoRoom : Type 0
 NoRoom = (d r o w : List ℕ) → length w < answerSize → textOf d r o w ≡ record { result = false; buffer = o; words = w }
@@ -49,13 +43,7 @@ NoToken =
 abbrev pub AnswersTold : Type 0
 AnswersTold = (a b : Answer) → answerWords a ≡ answerWords b → a ≡ b
 
-abbrev pub FoundTold : Type 0
-FoundTold = (a b : Found) → foundWords a ≡ foundWords b → a ≡ b
-
 pub record Layout : Type 0 where
   pub plain : answerWords (answer.Plain (part 3 9)) ≡ 0 ∷ 0 ∷ 0 ∷ 3 ∷ 9 ∷ []
   pub written : answerWords (answer.Written 7) ≡ 1 ∷ 0 ∷ 0 ∷ 0 ∷ 7 ∷ []
   pub refused : answerWords (answer.Refused 8 4 (part 3 9)) ≡ 2 ∷ 8 ∷ 4 ∷ 3 ∷ 9 ∷ []
-  pub nothing : foundWords found.Nothing ≡ 0 ∷ 0 ∷ 0 ∷ 0 ∷ 0 ∷ []
-  pub found-at : foundWords (found.At 4 (part 3 9)) ≡ 1 ∷ 0 ∷ 4 ∷ 3 ∷ 9 ∷ []
-  pub found-refused : foundWords (found.Refused 7 4) ≡ 2 ∷ 7 ∷ 4 ∷ 0 ∷ 0 ∷ []

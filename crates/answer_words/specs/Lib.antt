@@ -1,4 +1,3 @@
 pub mod Texts
 pub mod Given
-pub mod Found
 pub mod Claims

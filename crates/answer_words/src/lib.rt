@@ -1,8 +1,6 @@
-// Unescaping and the look-up over lent words, for callers in C and Rust.
-mod found;
+// Unescaping over lent words, for callers in C and Rust.
 mod given;
 mod texts;
 
-pub use found::look_up;
 pub use given::unescape_text;
 pub use texts::unescape;

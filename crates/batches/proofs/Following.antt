@@ -32,7 +32,7 @@ use Rattle.step_words.specs.Stepping.{stopsAt, Gone, stepIn}
 use Rattle.batches.specs.Walks.{valuesBy, stepping}
 use Rattle.step_words.specs.Claims.{Whole}
 use Rattle.step_words.specs.declared.step.Layer.the-variants.{Tokenizer as Tokens, Parser as Parses}
-use Rattle.step_words.proofs.Fronts.{end-number}
+use Rattle.front_words.proofs.Fronts.{end-number}
 use Rattle.step_words.proofs.Going.{stop-is}
 use Rattle.step_words.proofs.Whole.{step-whole}
 use Rattle.step_words.proofs.Laws.{tokenizer-steps, parser-steps}

@@ -9,7 +9,7 @@ use Rattle.tokenizer.specs.declared.front.Said.{Said}
 use Rattle.tokenizer.specs.declared.front.Advanced.{Advanced}
 use Rattle.tokenizer_rows.specs.Rows.{rowBy}
 use Rattle.tokenizer_words.specs.Words.{pastedIn}
-use Rattle.step_words.specs.Fronts.{committed}
+use Rattle.front_words.specs.Fronts.{committed}
 use Rattle.step_words.specs.Stepping.{refusedIn, cameIn, outcomeFor, leftIn, stopsAt, Gone, stays, goneBy, stepIn, rowIn}
 use Rattle.step_words.specs.declared.outcome.Outcome.{Outcome}
 use Rattle.step_words.specs.declared.step.Layer.{Layer}

@@ -33,10 +33,10 @@ use Rattle.tokenizer_words.specs.Words.{wordsOf, stateIn}
 use Rattle.tokenizer_words.proofs.Standing.{slots-64}
 use Rattle.tokenizer_words.proofs.Slotted.{step-slots}
 use Rattle.parser_words.specs.ParserWords.{sortWord, sectionWords, keptWords}
-use Rattle.step_words.specs.Fronts.{committed}
+use Rattle.front_words.specs.Fronts.{committed}
 use Rattle.step_words.specs.Stepping.{keptNumber, cameIn, innermostAt, sortAt, openedAt}
 use Rattle.step_words.specs.declared.step.Layer.the-variants.{Parser}
-use Rattle.step_words.proofs.Fronts.{stepped, step-committed}
+use Rattle.front_words.proofs.Fronts.{stepped, step-committed}
 use Rattle.parser_words.proofs.Sections.{section-at}
 use Rattle.parser_words.proofs.Back.{not-0, not-11}
 

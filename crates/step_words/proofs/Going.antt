@@ -30,7 +30,7 @@ use Rattle.tokenizer_words.specs.Words.{wordsOf, stateIn}
 use Rattle.tokenizer_words.proofs.Standing.{slots-64}
 use Rattle.parser_words.specs.ParserWords.{keptWords, middleWords, parserWords, parserIn}
 use Rattle.parser_words.specs.Stops.{isStop}
-use Rattle.step_words.specs.Fronts.{committed}
+use Rattle.front_words.specs.Fronts.{committed}
 use Rattle.step_words.specs.Outcomes.{outcomeBy, outcomeIn}
 use Rattle.step_words.specs.Stepping.{cameIn, sortAt, openedAt, judgedIn, outcomeFor, stopsAt}
 use Rattle.step_words.specs.declared.step.Layer.the-variants.{Parser}

@@ -33,13 +33,13 @@ use Rattle.parser.proofs.Steps.{over, ended, goes-on}
 use Rattle.tokenizer_words.specs.Words.{wordsOf, stateIn}
 use Rattle.parser_words.specs.ParserWords.{parserWords, parserIn, freshParserIn}
 use Rattle.parser_words.specs.Stops.{isStop}
-use Rattle.step_words.specs.Fronts.{committed}
+use Rattle.front_words.specs.Fronts.{committed}
 use Rattle.step_words.specs.Outcomes.{outcomeBy}
 use Rattle.step_words.specs.Stepping.{refusedIn, keptNumber, cameIn, judgedIn, outcomeFor, leftIn, stopsAt, Gone, stays, goneBy, stepIn}
 use Rattle.step_words.specs.Claims.{Whole, Reading, FreshReads, TokenizerSteps, ParserSteps}
 use Rattle.step_words.specs.declared.outcome.Outcome.{Outcome}
 use Rattle.step_words.specs.declared.step.Layer.the-variants.{Tokenizer as Tokens, Parser as Parses}
-use Rattle.step_words.proofs.Fronts.{step-committed, end-number}
+use Rattle.front_words.proofs.Fronts.{step-committed, end-number}
 use Rattle.step_words.proofs.Rulings.{GoesOn, Fair, ruling-goes-on}
 use Rattle.step_words.proofs.Going.{stop-is, answer-is, words-are}
 use Rattle.step_words.proofs.Branches.{refused, goes, stopped, went-on}

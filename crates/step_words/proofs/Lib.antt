@@ -1,4 +1,3 @@
-pub mod Fronts
 pub mod Rulings
 pub mod Judgements
 pub mod Agreeing

@@ -1,4 +1,3 @@
-pub mod Fronts
 pub mod Outcomes
 pub mod Stepping
 pub mod Claims

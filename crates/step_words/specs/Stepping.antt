@@ -16,7 +16,7 @@ use Rattle.parser_rules.specs.declared.judging.Judged.{Judged}
 use Rattle.parser_rules.specs.declared.judging.Judged.the-variants.{GivesOn, End}
 use Rattle.tokenizer_rows.specs.Rows.{rowBy}
 use Rattle.tokenizer_words.specs.Words.{pastedIn, stateIn}
-use Rattle.step_words.specs.Fronts.{committed}
+use Rattle.front_words.specs.Fronts.{committed}
 use Rattle.step_words.specs.Outcomes.{nothing, outcomeBy, outcomeIn}
 use Rattle.step_words.specs.declared.outcome.Outcome.{Outcome}
 use Rattle.step_words.specs.declared.step.Layer.{Layer}

@@ -1,12 +1,12 @@
 // One step of a state in words, in place: what came is judged, and only then is anything written.
-use crate::front::commit;
-use crate::front::front_in;
-use crate::front::inner_in;
 use crate::outcome::Outcome;
 use crate::outcome::innermost_at;
 use crate::outcome::outcome_of;
 use crate::outcome::put_outcome;
 use crate::outcome::say;
+use front_words::commit;
+use front_words::front_in;
+use front_words::inner_in;
 use parser_rules::Judged;
 use parser_rules::judge;
 use text::Part;

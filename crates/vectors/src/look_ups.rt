@@ -10,7 +10,7 @@ pub fn look_up_agrees(line: &[u8], s: &[u8], after: usize) -> bool {
     let len = key.len;
     let wanted = &bytes[..len];
     let mut answer = [0usize; 5];
-    if !answer_words::look_up(s, wanted, &mut answer) {
+    if !found_words::look_up(s, wanted, &mut answer) {
         return false;
     }
     let end = words_after(line, key.after, &answer, 0, 5);

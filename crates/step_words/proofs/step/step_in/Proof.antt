@@ -6,7 +6,7 @@ use lib.ListN.{getD}
 use Rattle.tokenizer.specs.declared.front.Advanced.{Advanced}
 use Rattle.parser.specs.Step.{ChangeFits}
 use Rattle.tokenizer_words.specs.Words.{pastedIn}
-use Rattle.step_words.specs.Fronts.{committed}
+use Rattle.front_words.specs.Fronts.{committed}
 use Rattle.step_words.specs.Outcomes.{Few, outcomeBy}
 use Rattle.step_words.specs.Stepping.{cameIn, openedAt, judgedIn, outcomeFor, leftIn, goneBy, stepIn, stopsAt, rowIn, Gone}
 use Rattle.step_words.specs.declared.outcome.Outcome.{Outcome}

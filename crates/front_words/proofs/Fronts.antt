@@ -30,7 +30,7 @@ use Rattle.tokenizer_words.specs.Words.{pastedIn, partWords, frontWords, wordsO
 use Rattle.tokenizer_words.proofs.Pasting.{pasted-room, pasted-front}
 use Rattle.tokenizer_words.proofs.Slots.{part-words-length, parts-length, held-words}
 use Rattle.tokenizer_words.proofs.Standing.{part-at, slots-back, slot-set, pasted-behind}
-use Rattle.step_words.specs.Fronts.{frontWordsBy, slotIn, committed}
+use Rattle.front_words.specs.Fronts.{frontWordsBy, slotIn, committed}
 
 -- the innermost of n open indentations
 pub inner-at : (w : List ℕ) (n : ℕ) → (n ≡ 0 → ⊥) → n ≤ 64

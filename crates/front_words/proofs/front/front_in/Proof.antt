@@ -1,8 +1,8 @@
 -- `front_in` is the front of `stateIn`, field by field.
 use Rattle.tokenizer_words.specs.Words.{stateIn}
 use borrow.Author.Needs.{needs}
-use Rattle.step_words.proofs.front.front_in.Statement.{statement}
-use Rattle.step_words.proofs.front.front_in.Tie as tie
+use Rattle.front_words.proofs.front.front_in.Statement.{statement}
+use Rattle.front_words.proofs.front.front_in.Tie as tie
 
 element-copy-out-held-by : tie.Need-element-copy-out-held-by
 element-copy-out-held-by c = search needs

@@ -4,7 +4,7 @@ use tokenizer_words::paste;
 ghost use mathlib.Core.Path.{_≡_};
 ghost use lib.Dec.{leb};
 ghost use lib.ListN.{length};
-ghost use Rattle.answer_words.specs.Found.{foundWords, foundIn};
+ghost use Rattle.found_words.specs.Found.{foundWords, foundIn};
 
 fn found_words(f: Found) -> [usize; 5]
     ensures { λ r. ⌜ r ≡ foundWords f ⌝ }

@@ -1,10 +1,10 @@
 -- Only an indentation that opens has its slot written, and only one of the 64.
 use borrow.Author.Tests.{lt-ltb, le-ltb}
-use Rattle.step_words.specs.Fronts.{slotIn}
-use Rattle.step_words.proofs.Fronts.{not-open}
+use Rattle.front_words.specs.Fronts.{slotIn}
+use Rattle.front_words.proofs.Fronts.{not-open}
 use borrow.Author.Needs.{needs}
-use Rattle.step_words.proofs.front.put_slot.Statement.{statement}
-use Rattle.step_words.proofs.front.put_slot.Tie as tie
+use Rattle.front_words.proofs.front.put_slot.Statement.{statement}
+use Rattle.front_words.proofs.front.put_slot.Tie as tie
 
 enum-told : tie.Need-enum-told
 enum-told c = search needs

@@ -1,8 +1,8 @@
 -- The slot by its two words; empty where nothing is open, and past the slots.
-use Rattle.step_words.proofs.Fronts.{inner-at, inner-past}
+use Rattle.front_words.proofs.Fronts.{inner-at, inner-past}
 use borrow.Author.Needs.{needs}
-use Rattle.step_words.proofs.front.inner_in.Statement.{statement}
-use Rattle.step_words.proofs.front.inner_in.Tie as tie
+use Rattle.front_words.proofs.front.inner_in.Statement.{statement}
+use Rattle.front_words.proofs.front.inner_in.Tie as tie
 
 returns : tie.Need-returns
 returns c = rw (c .if1 .taken)

@@ -1,7 +1,7 @@
-use Rattle.step_words.specs.Fronts.{committed}
+use Rattle.front_words.specs.Fronts.{committed}
 use borrow.Author.Needs.{needs}
-use Rattle.step_words.proofs.front.commit.Statement.{statement}
-use Rattle.step_words.proofs.front.commit.Tie as tie
+use Rattle.front_words.proofs.front.commit.Statement.{statement}
+use Rattle.front_words.proofs.front.commit.Tie as tie
 
 element-copy-out-depth : tie.Need-element-copy-out-depth
 element-copy-out-depth c = search needs

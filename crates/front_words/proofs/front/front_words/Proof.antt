@@ -1,8 +1,8 @@
 use Rattle.tokenizer_words.proofs.Slots.{held-words}
-use Rattle.step_words.specs.Fronts.{frontWordsBy}
+use Rattle.front_words.specs.Fronts.{frontWordsBy}
 use borrow.Author.Needs.{needs}
-use Rattle.step_words.proofs.front.front_words.Statement.{statement}
-use Rattle.step_words.proofs.front.front_words.Tie as tie
+use Rattle.front_words.proofs.front.front_words.Statement.{statement}
+use Rattle.front_words.proofs.front.front_words.Tie as tie
 
 held-words-requires : tie.Need-held-words-requires
 held-words-requires c κs = search needs

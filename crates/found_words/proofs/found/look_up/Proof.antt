@@ -5,11 +5,11 @@ use lib.ListN.{length}
 use borrow.Author.Tests.{lt-leb, le-leb}
 use Rattle.look_up.specs.declared.search.Found.{Found}
 use Rattle.look_up.specs.declared.search.Found.the-variants.{Nothing, At, Refused}
-use Rattle.answer_words.specs.Found.{foundWords, foundIn}
+use Rattle.found_words.specs.Found.{foundWords, foundIn}
 use Rattle.tokenizer_words.proofs.Pasting.{pasted-room, pasted-front}
 use borrow.Author.Needs.{needs}
-use Rattle.answer_words.proofs.found.look_up.Statement.{statement}
-use Rattle.answer_words.proofs.found.look_up.Tie as tie
+use Rattle.found_words.proofs.found.look_up.Statement.{statement}
+use Rattle.found_words.proofs.found.look_up.Tie as tie
 
 found-5 : (f : Found) → length (foundWords f) ≡ 5
 unfolding foundWords

@@ -1,8 +1,8 @@
 -- One answer for each variant.
-use Rattle.answer_words.specs.Found.{foundWords}
+use Rattle.found_words.specs.Found.{foundWords}
 use borrow.Author.Needs.{needs}
-use Rattle.answer_words.proofs.found.found_words.Statement.{statement}
-use Rattle.answer_words.proofs.found.found_words.Tie as tie
+use Rattle.found_words.proofs.found.found_words.Statement.{statement}
+use Rattle.found_words.proofs.found.found_words.Tie as tie
 
 enum-told : tie.Need-enum-told
 enum-told c = search needs

@@ -15,10 +15,10 @@ ghost use lib.ListN.{drop};
 ghost use Rattle.tokenizer.specs.Step.{innerOf};
 ghost use Rattle.tokenizer.specs.Front.{frontOf};
 ghost use Rattle.tokenizer_words.specs.Words.{partsIn, stateIn};
-ghost use Rattle.step_words.specs.Fronts.{frontWordsBy, slotIn, committed};
+ghost use Rattle.front_words.specs.Fronts.{frontWordsBy, slotIn, committed};
 
 // The state in the words but for the slots.
-pub(crate) fn front_in(w: &[usize; 278]) -> Front
+pub fn front_in(w: &[usize; 278]) -> Front
     ensures { λ r. ⌜ r ≡ frontOf (stateIn (now (w .entry))) ⌝ }
 {
     let held = held_by(w[5], w[6], w[7]);
@@ -36,7 +36,7 @@ pub(crate) fn front_in(w: &[usize; 278]) -> Front
 }
 
 // The innermost of the open indentations in the slots; empty where there is none.
-pub(crate) fn inner_in(depth: usize, w: &[usize; 278]) -> Part
+pub fn inner_in(depth: usize, w: &[usize; 278]) -> Part
     ensures { λ r. ⌜ r ≡ innerOf (partsIn 64 (drop 9 (now (w .entry)))) depth ⌝ }
 {
     if depth == 0 {
@@ -82,7 +82,7 @@ fn put_slot(change: Change, indent: Part, depth: usize, w: &mut [usize; 278])
 }
 
 // Writes what a step comes to.
-pub(crate) fn commit(m: Advanced, w: &mut [usize; 278])
+pub fn commit(m: Advanced, w: &mut [usize; 278])
     ensures { λ _. ⌜ now (w .exit) ≡ committed m (now (w .entry)) ⌝ }
 {
     let depth = w[8];
