@@ -1,5 +1,6 @@
--- What a scan by eights passes over: the scan by bytes may go on from there (text_scans/proofs/Passing, `along`).
-use Prim.Native.Nat.{ℕ, _+_, _≤_, min}
+-- What a scan by eights or by words passes over: the scan by bytes may go on from there (text_scans/proofs/Passing, `along`
+-- and `upto`).
+use Prim.Native.Nat.{ℕ, _+_, _*_, _/_, _≤_, min}
 use mathlib.Core.Path.{_≡_, refl, sym, _∙_}
 use mathlib.Core.List.{List}
 use mathlib.Core.Bool.{true}
@@ -7,12 +8,13 @@ use native.Mathlib.Nat.{zero-add, min-eq-right}
 use native.Mathlib.Omega.{arith}
 use lib.ListN.{length, getD, drop}
 use borrow.Author.Tests.{eqb-true}
-use Rattle.text.specs.Bytes.{isBlank, countWhile, startsWith}
+use Rattle.text.specs.Bytes.{isBlank, isBreak, notBreak, countWhile, lineEnd, startsWith}
 use Rattle.text.specs.Trimming.{dropped}
 use Rattle.text_scans.specs.Eights.{eights, spaceAt, sameAt}
+use Rattle.line_scans.specs.Words.{lineAt, lineEights}
 use Rattle.text.specs.declared.trimming.Dropped.{Dropped}
 use Rattle.text.specs.declared.trimming.Dropped.the-variants.{Blanks, BlanksAndBreaks}
-use Rattle.text_scans.proofs.Passing.{along}
+use Rattle.text_scans.proofs.Passing.{passing-le, upto, along}
 use Rattle.text.proofs.Scan.{more}
 use Rattle.text.proofs.Prefix.{same}
 
@@ -34,3 +36,11 @@ common p s r f =
     rw (min-eq-right f)
     (along (sameAt s p) (length p) (λ i. startsWith p s ≡ startsWith (drop i p) (drop i s)) refl
     (λ i l e h. h ∙ same p s i (omega arith) l (eqb-true (getD s i 0) (getD p i 0) e)) r)
+
+pub line : (s : List ℕ) (r : ℕ) → r ≡ lineEights s → (r ≤ length s) × (lineEnd s ≡ r + lineEnd (drop r s))
+unfolding isBreak
+line s r e =
+    let n = length s / 8 * 8 in (
+      omega (arith, passing-le (lineAt s) n),
+      upto (lineAt s) n (λ i. lineEnd s ≡ i + lineEnd (drop i s)) (sym (zero-add _)) (λ i l f h. h ∙ more notBreak s i (omega arith) f) r (omega arith),
+    )

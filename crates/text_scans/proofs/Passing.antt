@@ -25,20 +25,20 @@ most : (b : Bool) {m n : ℕ} → m ≤ n → cond b (suc m) 0 ≤ suc n
 most true h = omega arith
 most false h = omega arith
 
-passing-le : (t : ℕ → Bool) (n : ℕ) → passing t n ≤ n
+pub passing-le : (t : ℕ → Bool) (n : ℕ) → passing t n ≤ n
 unfolding passing
 passing-le t zero = omega arith
 passing-le t (suc n) = most (t 0) (passing-le (λ j. t (suc j)) n)
 
 -- every place below the count passes
-passes : (t : ℕ → Bool) (n i : ℕ) → i < passing t n → t i ≡ true
+pub passes : (t : ℕ → Bool) (n i : ℕ) → i < passing t n → t i ≡ true
 unfolding passing
 passes t zero i h = absurd (omega arith)
 passes t (suc n) zero h = head (t 0) _ h
 passes t (suc n) (suc i) h = passes (λ j. t (suc j)) n i (tail (t 0) _ i h)
 
 -- a place that is reached and passes is counted
-reaches : (t : ℕ → Bool) (n i : ℕ) → i < n → i ≤ passing t n → t i ≡ true → i < passing t n
+pub reaches : (t : ℕ → Bool) (n i : ℕ) → i < n → i ≤ passing t n → t i ≡ true → i < passing t n
 unfolding passing
 reaches t zero i l h e = absurd (omega arith)
 reaches t (suc n) zero l h e = rw e (omega arith)
@@ -97,10 +97,10 @@ module _ (t : ℕ → Bool) (n i : ℕ) (h : Reached t n i) where
   pub end : n - i < 8 → i ≡ eights t n
   end l = ends (omega (arith, passing-le t n))
 
--- What holds at the start, and goes over from each place that passes to the next, holds at the place r where the
--- eights end.
+-- What holds at the start, and goes over from each place that passes to the next, holds at each place up to the first
+-- that fails, and so at the place r where the eights end.
 module _ (t : ℕ → Bool) (n : ℕ) (G : ℕ → Type 0) (z : G 0) (next : (i : ℕ) → i < n → t i ≡ true → G i → G (i + 1)) where
-  upto : (i : ℕ) → i ≤ passing t n → G i
+  pub upto : (i : ℕ) → i ≤ passing t n → G i
   upto zero l = z
   upto (suc i) l = rw add-one at (next i (omega (arith, passing-le t n)) (passes t n i (omega arith)) (upto i (omega arith)))
 

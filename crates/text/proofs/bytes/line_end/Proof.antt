@@ -1,9 +1,10 @@
 -- `line_end` counts the bytes before the first CR or LF. Invariant: what is passed and what `lineEnd` counts from there on
--- make up the whole count. Measure: the bytes left.
+-- make up the whole count; it holds where the search by words ends (proofs/Skipped). Measure: the bytes left.
 use Rattle.text.specs.Bytes.{notBreak, lineEnd}
 use mathlib.Core.Path.{ap}
 use mathlib.Core.Bool.{not}
 use Rattle.text.proofs.Scan.{more, stop, end as none-left}
+use Rattle.text.proofs.Skipped.{line}
 use lib.ListN.{length, drop}
 use mathlib.Core.Path.{_≡_, sym, _∙_}
 use Prim.Native.Nat.{_+_, _-_, _≤_}
@@ -17,8 +18,11 @@ Inv-loop s end₀ end = (end ≤ length s) × (lineEnd s ≡ end + lineEnd (drop
 abbrev μ-loop : tie.MeasureT-loop
 μ-loop s end₀ end = length s - end
 
+line-eights-requires : tie.Need-line-eights-requires Inv-loop μ-loop
+line-eights-requires c κs = search needs
+
 loop-holds : tie.Need-loop-holds Inv-loop μ-loop
-loop-holds c = search needs
+loop-holds c = line _ _ (c .line-eights .ensures)
 
 shared-slice-read-is-newline : tie.Need-shared-slice-read-is-newline Inv-loop μ-loop
 shared-slice-read-is-newline c = search needs
@@ -51,6 +55,7 @@ line-end-spec =
     (tie.spec
     Inv-loop
     μ-loop
+    line-eights-requires
     loop-holds
     shared-slice-read-is-newline
     is-newline-requires
