@@ -7,10 +7,10 @@ use mathlib.Core.Bool.{Bool, true, false, cond}
 use native.Mathlib.Nat.{add-zero, zero-add, suc-add, mul-one}
 use native.Mathlib.Omega.{arith}
 use lib.Arith.{digits-mod}
-use lib.Dec.{eqb}
+use lib.Dec.{eqb, eqb·zero-suc, eqb·suc-zero, eqb·suc-suc}
 use lib.Bits.{shifted-half, shifted-even, bitAnd, bitOr, bitXor, and-block, or-block, xor-block, and-lt, and-le-r, or-lt, xor-lt}
 use lib.Count.{trailingZeros}
-use borrow.Author.Tests.{eqb-true}
+use borrow.Author.Tests.{eqb-true, ne-eqb}
 use Rattle.text_scans.specs.Eights.{passing}
 use Rattle.text_scans.proofs.Passing.{passes}
 use Rattle.line_scans.specs.Words.{wordOf, each, markedIn, hitsOf, inLine}
@@ -83,3 +83,16 @@ first-hit f (suc n) h =
     let z : 8 * suc n ≡ 8 + 8 * n = omega arith in
     rw (z, hits-block n (wordOf (λ i. f (suc i)) n) (f 0) (h 0), hit (f 0) (h 0))
     (one (inLine (f 0)) (8 * n) _ _ (first-hit (λ i. f (suc i)) n (λ i. h (suc i))))
+
+-- no hit at all: a byte in front, then n bytes
+none : (t : Bool) (h m n : ℕ) → eqb h 0 ≡ eqb m n → eqb (h * 2 ^ 8 + cond t 0 0x80) 0 ≡ eqb (cond t (suc m) 0) (suc n)
+none true zero m n e = e ∙ sym (eqb·suc-suc m n)
+none true (suc h) m n e = ne-eqb (suc h * 2 ^ 8 + 0) 0 (λ q. omega arith) ∙ sym (eqb·suc-zero h) ∙ e ∙ sym (eqb·suc-suc m n)
+none false h m n e = ne-eqb (h * 2 ^ 8 + 0x80) 0 (λ q. omega arith) ∙ sym (eqb·zero-suc n)
+
+pub no-hit : (f : ℕ → ℕ) (n : ℕ) → ((i : ℕ) → f i < 2 ^ 8) → eqb (hitsOf n (wordOf f n)) 0 ≡ eqb (passing (λ i. inLine (f i)) n) n
+unfolding wordOf passing each
+no-hit f zero h = refl
+no-hit f (suc n) h =
+    rw (hits-block n (wordOf (λ i. f (suc i)) n) (f 0) (h 0), hit (f 0) (h 0))
+    (none (inLine (f 0)) _ _ n (no-hit (λ i. f (suc i)) n (λ i. h (suc i))))

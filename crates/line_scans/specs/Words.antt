@@ -1,6 +1,6 @@
 -- The search for CR or LF by words: intermediate definitions, over the bytes at places. text/proofs/Skipped ties the count
 -- to the line's end.
-use Prim.Native.Nat.{ℕ, zero, suc, _+_, _*_, _/_, _^_}
+use Prim.Native.Nat.{ℕ, zero, suc, _+_, _*_, _/_, _^_, min}
 use Prim.Native.Char.{code as byte}
 use mathlib.Core.List.{List}
 use mathlib.Core.Bool.{Bool, not, _||_}
@@ -40,6 +40,18 @@ inLine b = not (eqb b (byte "\r") || eqb b (byte "\n"))
 abbrev pub lineAt : List ℕ → ℕ → Bool
 lineAt s i = inLine (getD s i 0)
 
--- how many bytes of the whole eights stand before the first CR or LF
+-- the eight bytes from place i on have no CR and no LF
+abbrev pub clearAt : List ℕ → ℕ → Bool
+clearAt s i = eqb (passing (λ j. lineAt s (i + j)) 8) 8
+
+-- how many bytes stand before the first CR or LF
+abbrev pub lineLen : List ℕ → ℕ
+lineLen s = passing (lineAt s) (length s)
+
+-- the same in whole pairs of eight
+abbrev pub linePairs : List ℕ → ℕ
+linePairs s = lineLen s / 16 * 16
+
+-- the same as far as the whole eights go
 abbrev pub lineEights : List ℕ → ℕ
-lineEights s = passing (lineAt s) (length s / 8 * 8)
+lineEights s = min (lineLen s) (length s / 8 * 8)

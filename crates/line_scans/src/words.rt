@@ -1,7 +1,7 @@
 ghost use mathlib.Core.Path.{_≡_};
 ghost use Prim.Native.Nat.{_+_, _^_, _≤_, _<_};
 ghost use lib.ListN.{length};
-ghost use Rattle.line_scans.specs.Words.{byteAt, wordOf, markedIn, hitsOf, lineEights};
+ghost use Rattle.line_scans.specs.Words.{byteAt, wordOf, markedIn, hitsOf, clearAt, linePairs, lineEights};
 
 const SEVENS: u64 = 0x7F7F_7F7F_7F7F_7F7F;
 
@@ -49,12 +49,35 @@ fn hits(w: u64) -> u64
     (marked(w ^ CRS) & marked(w ^ LFS) & HIGHS) ^ HIGHS
 }
 
+// Whether the eight bytes from i on have no CR and no LF.
+fn is_clear(s: &[u8], i: usize) -> bool
+    requires { ⌜ i + 8 ≤ length (now s) ⌝ }
+    ensures { λ r. ⌜ r ≡ clearAt (now (s .entry)) i ⌝ }
+{
+    hits(word_at(s, i)) == 0
+}
+
+// How many bytes stand before the first CR or LF, in whole pairs of words: two are tested at once, which compiles to
+// operations on sixteen bytes.
+fn line_pairs(s: &[u8]) -> usize
+    ensures { λ r. ⌜ r ≡ linePairs (now (s .entry)) ⌝ }
+{
+    let mut at = 0;
+    while 16 <= s.len() - at {
+        if !(is_clear(s, at) & is_clear(s, at + 8)) {
+            return at;
+        }
+        at += 16;
+    }
+    at
+}
+
 // How many bytes stand before the first CR or LF; where the whole eights have none, how many they are. The bytes after
 // them are left for the caller to read one by one.
 pub fn line_eights(s: &[u8]) -> usize
     ensures { λ r. ⌜ r ≡ lineEights (now (s .entry)) ⌝ }
 {
-    let mut at = 0;
+    let mut at = line_pairs(s);
     while 8 <= s.len() - at {
         let n = (u64::trailing_zeros(hits(word_at(s, at))) / 8) as usize;
         if n < 8 {

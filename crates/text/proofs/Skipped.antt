@@ -4,14 +4,14 @@ use Prim.Native.Nat.{ℕ, _+_, _*_, _/_, _≤_, min}
 use mathlib.Core.Path.{_≡_, refl, sym, _∙_}
 use mathlib.Core.List.{List}
 use mathlib.Core.Bool.{true}
-use native.Mathlib.Nat.{zero-add, min-eq-right}
+use native.Mathlib.Nat.{zero-add, min-eq-right, min-le-left}
 use native.Mathlib.Omega.{arith}
 use lib.ListN.{length, getD, drop}
 use borrow.Author.Tests.{eqb-true}
 use Rattle.text.specs.Bytes.{isBlank, isBreak, notBreak, countWhile, lineEnd, startsWith}
 use Rattle.text.specs.Trimming.{dropped}
 use Rattle.text_scans.specs.Eights.{eights, spaceAt, sameAt}
-use Rattle.line_scans.specs.Words.{lineAt, lineEights}
+use Rattle.line_scans.specs.Words.{lineAt, lineLen, lineEights}
 use Rattle.text.specs.declared.trimming.Dropped.{Dropped}
 use Rattle.text.specs.declared.trimming.Dropped.the-variants.{Blanks, BlanksAndBreaks}
 use Rattle.text_scans.proofs.Passing.{passing-le, upto, along}
@@ -40,7 +40,7 @@ common p s r f =
 pub line : (s : List ℕ) (r : ℕ) → r ≡ lineEights s → (r ≤ length s) × (lineEnd s ≡ r + lineEnd (drop r s))
 unfolding isBreak
 line s r e =
-    let n = length s / 8 * 8 in (
-      omega (arith, passing-le (lineAt s) n),
-      upto (lineAt s) n (λ i. lineEnd s ≡ i + lineEnd (drop i s)) (sym (zero-add _)) (λ i l f h. h ∙ more notBreak s i (omega arith) f) r (omega arith),
+    let l = min-le-left (lineLen s) (length s / 8 * 8) in (
+      omega (arith, passing-le (lineAt s) (length s)),
+      upto (lineAt s) (length s) (λ i. lineEnd s ≡ i + lineEnd (drop i s)) (sym (zero-add _)) (λ i m f h. h ∙ more notBreak s i m f) r (omega arith),
     )
