@@ -4,21 +4,24 @@ use Prim.Native.Char.{code as byte}
 use mathlib.Core.Path.{_≡_, refl}
 use mathlib.Core.List.{List, [], _∷_}
 use Rattle.text_scans.specs.Eights.{passing}
-use Rattle.line_scans.specs.Words.{lineEights}
+use Rattle.line_scans.specs.Words.{lineSixteens}
 
--- eight bytes, of which the fourth is b, and a break behind them
-abbrev around : ℕ → List ℕ
-around b = byte "a" ∷ byte "a" ∷ byte "a" ∷ b ∷ byte "a" ∷ byte "a" ∷ byte "a" ∷ byte "a" ∷ byte "\n" ∷ []
+-- sixteen bytes, of which the fourth is b and the twelfth c, and a break behind them
+abbrev around : ℕ → ℕ → List ℕ
+around b c = aaa (b ∷ aaa (byte "a" ∷ aaa (c ∷ aaa (byte "a" ∷ byte "\n" ∷ []))))
+  where
+    aaa : List ℕ → List ℕ
+    aaa s = byte "a" ∷ byte "a" ∷ byte "a" ∷ s
 
-cr : lineEights (around (byte "\r")) ≡ 3
+cr : lineSixteens (around (byte "\r") (byte "\n")) ≡ 3
 unfolding passing
 cr = refl
 
-lf : lineEights (around (byte "\n")) ≡ 3
+lf : lineSixteens (around (byte "a") (byte "\n")) ≡ 11
 unfolding passing
 lf = refl
 
--- the ninth byte is not in a whole eight
-neither : lineEights (around (byte "a")) ≡ 8
+-- the seventeenth byte is not in a whole sixteen
+neither : lineSixteens (around (byte "a") (byte "a")) ≡ 16
 unfolding passing
 neither = refl

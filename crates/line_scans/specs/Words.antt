@@ -3,9 +3,10 @@
 use Prim.Native.Nat.{ℕ, zero, suc, _+_, _*_, _/_, _^_, min}
 use Prim.Native.Char.{code as byte}
 use mathlib.Core.List.{List}
-use mathlib.Core.Bool.{Bool, not, _||_}
+use mathlib.Core.Bool.{Bool, cond, not, _||_}
 use lib.Bits.{bitAnd, bitOr, bitXor}
-use lib.Dec.{eqb}
+use lib.Count.{trailingZeros}
+use lib.Dec.{eqb, ltb}
 use lib.ListN.{length, getD}
 use Rattle.text_scans.specs.Eights.{passing}
 
@@ -33,6 +34,10 @@ hitsOf n w =
     bitXor (bitAnd (bitAnd (markedIn n (bitXor w (each n (byte "\r")))) (markedIn n (bitXor w (each n (byte "\n"))))) (each n 0x80))
     (each n 0x80)
 
+-- how many of sixteen bytes stand before the first hit: trailing zero bits count the bytes below it
+abbrev pub firstHit : ℕ → ℕ → ℕ
+firstHit low high = cond (ltb (trailingZeros 64 low / 8) 8) (trailingZeros 64 low / 8) (8 + trailingZeros 64 high / 8)
+
 -- a byte is neither CR nor LF
 abbrev pub inLine : ℕ → Bool
 inLine b = not (eqb b (byte "\r") || eqb b (byte "\n"))
@@ -40,18 +45,10 @@ inLine b = not (eqb b (byte "\r") || eqb b (byte "\n"))
 abbrev pub lineAt : List ℕ → ℕ → Bool
 lineAt s i = inLine (getD s i 0)
 
--- the eight bytes from place i on have no CR and no LF
-abbrev pub clearAt : List ℕ → ℕ → Bool
-clearAt s i = eqb (passing (λ j. lineAt s (i + j)) 8) 8
-
 -- how many bytes stand before the first CR or LF
 abbrev pub lineLen : List ℕ → ℕ
 lineLen s = passing (lineAt s) (length s)
 
--- the same in whole pairs of eight
-abbrev pub linePairs : List ℕ → ℕ
-linePairs s = lineLen s / 16 * 16
-
--- the same as far as the whole eights go
-abbrev pub lineEights : List ℕ → ℕ
-lineEights s = min (lineLen s) (length s / 8 * 8)
+-- the same as far as the whole sixteens go
+abbrev pub lineSixteens : List ℕ → ℕ
+lineSixteens s = min (lineLen s) (length s / 16 * 16)

@@ -1,4 +1,4 @@
 // The search for the end of a line, a word of eight bytes at a time.
 mod words;
 
-pub use words::line_eights;
+pub use words::line_sixteens;

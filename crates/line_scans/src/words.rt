@@ -1,7 +1,7 @@
 ghost use mathlib.Core.Path.{_≡_};
 ghost use Prim.Native.Nat.{_+_, _^_, _≤_, _<_};
 ghost use lib.ListN.{length};
-ghost use Rattle.line_scans.specs.Words.{byteAt, wordOf, markedIn, hitsOf, clearAt, linePairs, lineEights};
+ghost use Rattle.line_scans.specs.Words.{byteAt, wordOf, markedIn, hitsOf, firstHit, lineSixteens};
 
 const SEVENS: u64 = 0x7F7F_7F7F_7F7F_7F7F;
 
@@ -49,41 +49,33 @@ fn hits(w: u64) -> u64
     (marked(w ^ CRS) & marked(w ^ LFS) & HIGHS) ^ HIGHS
 }
 
-// Whether the eight bytes from i on have no CR and no LF.
-fn is_clear(s: &[u8], i: usize) -> bool
-    requires { ⌜ i + 8 ≤ length (now s) ⌝ }
-    ensures { λ r. ⌜ r ≡ clearAt (now (s .entry)) i ⌝ }
+// How many of sixteen bytes stand before the first hit, given the hits of the lower eight and of the upper; 16 where
+// there is none.
+fn first_hit(low: u64, high: u64) -> usize
+    ensures { λ r. ⌜ r ≡ firstHit low high ⌝ }
 {
-    hits(word_at(s, i)) == 0
+    let n = (u64::trailing_zeros(low) / 8) as usize;
+    if n < 8 {
+        n
+    } else {
+        8 + (u64::trailing_zeros(high) / 8) as usize
+    }
 }
 
-// How many bytes stand before the first CR or LF, in whole pairs of words: two are tested at once, which compiles to
-// operations on sixteen bytes.
-fn line_pairs(s: &[u8]) -> usize
-    ensures { λ r. ⌜ r ≡ linePairs (now (s .entry)) ⌝ }
+// How many bytes stand before the first CR or LF; where the whole sixteens have none, how many they are. The bytes after
+// them are left for the caller to read one by one. Two words are tested at once: that compiles to operations on sixteen
+// bytes.
+pub fn line_sixteens(s: &[u8]) -> usize
+    ensures { λ r. ⌜ r ≡ lineSixteens (now (s .entry)) ⌝ }
 {
     let mut at = 0;
     while 16 <= s.len() - at {
-        if !(is_clear(s, at) & is_clear(s, at + 8)) {
-            return at;
+        let low = hits(word_at(s, at));
+        let high = hits(word_at(s, at + 8));
+        if low | high != 0 {
+            return at + first_hit(low, high);
         }
         at += 16;
-    }
-    at
-}
-
-// How many bytes stand before the first CR or LF; where the whole eights have none, how many they are. The bytes after
-// them are left for the caller to read one by one.
-pub fn line_eights(s: &[u8]) -> usize
-    ensures { λ r. ⌜ r ≡ lineEights (now (s .entry)) ⌝ }
-{
-    let mut at = line_pairs(s);
-    while 8 <= s.len() - at {
-        let n = (u64::trailing_zeros(hits(word_at(s, at))) / 8) as usize;
-        if n < 8 {
-            return at + n;
-        }
-        at += 8;
     }
     at
 }

@@ -11,7 +11,7 @@ use borrow.Author.Tests.{eqb-true}
 use Rattle.text.specs.Bytes.{isBlank, isBreak, notBreak, countWhile, lineEnd, startsWith}
 use Rattle.text.specs.Trimming.{dropped}
 use Rattle.text_scans.specs.Eights.{eights, spaceAt, sameAt}
-use Rattle.line_scans.specs.Words.{lineAt, lineLen, lineEights}
+use Rattle.line_scans.specs.Words.{lineAt, lineLen, lineSixteens}
 use Rattle.text.specs.declared.trimming.Dropped.{Dropped}
 use Rattle.text.specs.declared.trimming.Dropped.the-variants.{Blanks, BlanksAndBreaks}
 use Rattle.text_scans.proofs.Passing.{passing-le, upto, along}
@@ -37,10 +37,10 @@ common p s r f =
     (along (sameAt s p) (length p) (λ i. startsWith p s ≡ startsWith (drop i p) (drop i s)) refl
     (λ i l e h. h ∙ same p s i (omega arith) l (eqb-true (getD s i 0) (getD p i 0) e)) r)
 
-pub line : (s : List ℕ) (r : ℕ) → r ≡ lineEights s → (r ≤ length s) × (lineEnd s ≡ r + lineEnd (drop r s))
+pub line : (s : List ℕ) (r : ℕ) → r ≡ lineSixteens s → (r ≤ length s) × (lineEnd s ≡ r + lineEnd (drop r s))
 unfolding isBreak
 line s r e =
-    let l = min-le-left (lineLen s) (length s / 8 * 8) in (
+    let l = min-le-left (lineLen s) (length s / 16 * 16) in (
       omega (arith, passing-le (lineAt s) (length s)),
       upto (lineAt s) (length s) (λ i. lineEnd s ≡ i + lineEnd (drop i s)) (sym (zero-add _)) (λ i m f h. h ∙ more notBreak s i m f) r (omega arith),
     )

@@ -1,4 +1,4 @@
-use line_scans::line_eights;
+use line_scans::line_sixteens;
 use text_scans::same_eights;
 ghost use mathlib.Core.Path.{_≡_};
 ghost use Rattle.text.specs.Bytes.{isBlank, isBreak, firstOf, breakSize, lineEnd, startsWith, isSame};
@@ -62,7 +62,7 @@ pub fn newline_size(s: &[u8]) -> usize
 pub fn line_end(s: &[u8]) -> usize
     ensures { λ r. ⌜ r ≡ lineEnd (now (s .entry)) ⌝ }
 {
-    let mut end = line_eights(s);
+    let mut end = line_sixteens(s);
     while end < s.len() {
         if is_newline(s[end]) {
             return end;

@@ -14,6 +14,10 @@ const ALPHABET: [u8; 16] = *b" \t\r\n;=\"\\ax\xC3\xA9\xFF{}\x80";
 /// How many bytes of the alphabet are put together at random.
 const JUMBLED_BYTES: usize = 16;
 
+/// How long a comment is in which each byte stands at each place: its end is looked for by sixteen bytes at
+/// a time.
+const COMMENT: usize = 40;
+
 /// How deep sections are nested: about as deep as the port lets them be.
 const DEPTHS: [usize; 4] = [63, 64, 65, 66];
 
@@ -86,6 +90,8 @@ impl Extent {
         let random = &mut Random::new();
         eprintln!("  every document of up to {} bytes", self.short);
         every(&ALPHABET.map(|byte| [byte]), self.short, each);
+        eprintln!("  every byte at every place of a comment of {COMMENT} bytes");
+        comments(each);
         eprintln!("  sections nested {DEPTHS:?} deep");
         for depth in DEPTHS {
             for steps in STEPS {
@@ -106,6 +112,18 @@ impl Extent {
             spent.on(&document);
         }
         spent
+    }
+}
+
+/// Comments with one other byte, an entry below it.
+fn comments(each: &mut impl FnMut(&[u8])) {
+    for place in 0..COMMENT {
+        for byte in 0..=u8::MAX {
+            let mut document = b";".repeat(COMMENT + 1);
+            document[1 + place] = byte;
+            document.extend(b"\na = b");
+            each(&document);
+        }
     }
 }
 

@@ -18,11 +18,11 @@ Inv-loop s end₀ end = (end ≤ length s) × (lineEnd s ≡ end + lineEnd (drop
 abbrev μ-loop : tie.MeasureT-loop
 μ-loop s end₀ end = length s - end
 
-line-eights-requires : tie.Need-line-eights-requires Inv-loop μ-loop
-line-eights-requires c κs = search needs
+line-sixteens-requires : tie.Need-line-sixteens-requires Inv-loop μ-loop
+line-sixteens-requires c κs = search needs
 
 loop-holds : tie.Need-loop-holds Inv-loop μ-loop
-loop-holds c = line _ _ (c .line-eights .ensures)
+loop-holds c = line _ _ (c .line-sixteens .ensures)
 
 shared-slice-read-is-newline : tie.Need-shared-slice-read-is-newline Inv-loop μ-loop
 shared-slice-read-is-newline c = search needs
@@ -55,7 +55,7 @@ line-end-spec =
     (tie.spec
     Inv-loop
     μ-loop
-    line-eights-requires
+    line-sixteens-requires
     loop-holds
     shared-slice-read-is-newline
     is-newline-requires
