@@ -1,7 +1,6 @@
 -- The hits of a word. Every operation goes byte by byte, since no carry leaves a byte, and of one byte it is a table of 256
 -- rows; so counting trailing zero bits finds the first CR or LF.
 use Prim.Native.Nat.{ℕ, zero, suc, _+_, _*_, _/_, _^_, _<_}
-use Prim.Native.Char.{code as byte}
 use mathlib.Core.Path.{_≡_, refl, sym, ap, _∙_}
 use mathlib.Core.Bool.{Bool, true, false, cond}
 use native.Mathlib.Nat.{add-zero, zero-add, suc-add, mul-one}
@@ -26,7 +25,7 @@ table = refl
 hit : (b : ℕ) → b < 2 ^ 8 → hitsOf 1 b ≡ cond (inLine b) 0 0x80
 hit b l = eqb-true (hitsOf 1 b) _ (passes row 256 b (rw table l))
 
--- one byte more in front
+-- one byte more, the lowest
 marked-lt : (x : ℕ) → x < 2 ^ 8 → markedIn 1 x < 2 ^ 8
 unfolding each
 marked-lt x l = or-lt 8 (bitAnd x 0x7F + 0x7F) x (omega (arith, and-le-r x 0x7F)) l
@@ -41,21 +40,24 @@ marked-block n w b l =
 hits-block : (n w b : ℕ) → b < 2 ^ 8 → hitsOf (suc n) (w * 2 ^ 8 + b) ≡ hitsOf n w * 2 ^ 8 + hitsOf 1 b
 unfolding each
 hits-block n w b l =
-    let x = xor-lt 8 b 13 l (omega arith) in
-    let y = xor-lt 8 b 10 l (omega arith) in
-    let i = marked-lt (bitXor b 13) x in
-    let j = marked-lt (bitXor b 10) y in
+    let x = bitXor b 13 in
+    let y = bitXor b 10 in
+    let v = bitXor w (each n 13) in
+    let z = bitXor w (each n 10) in
+    let i = marked-lt x (xor-lt 8 b 13 l (omega arith)) in
+    let j = marked-lt y (xor-lt 8 b 10 l (omega arith)) in
+    let both = bitAnd (markedIn 1 x) (markedIn 1 y) in
     rw (
       xor-block 8 w (each n 13) b 13 l (omega arith),
       xor-block 8 w (each n 10) b 10 l (omega arith),
-      marked-block n (bitXor w (each n 13)) (bitXor b 13) x,
-      marked-block n (bitXor w (each n 10)) (bitXor b 10) y,
-      and-block 8 (markedIn n (bitXor w (each n 13))) (markedIn n (bitXor w (each n 10))) (markedIn 1 (bitXor b 13)) (markedIn 1 (bitXor b 10)) i j,
-      and-block 8 _ (each n 0x80) (bitAnd (markedIn 1 (bitXor b 13)) (markedIn 1 (bitXor b 10))) 0x80 (and-lt 8 _ _ i j) (omega arith),
+      marked-block n v x (xor-lt 8 b 13 l (omega arith)),
+      marked-block n z y (xor-lt 8 b 10 l (omega arith)),
+      and-block 8 (markedIn n v) (markedIn n z) (markedIn 1 x) (markedIn 1 y) i j,
+      and-block 8 _ (each n 0x80) both 0x80 (and-lt 8 _ _ i j) (omega arith),
     )
-    (xor-block 8 _ (each n 0x80) (bitAnd (bitAnd (markedIn 1 (bitXor b 13)) (markedIn 1 (bitXor b 10))) 0x80) 0x80 (omega (arith, and-le-r (bitAnd (markedIn 1 (bitXor b 13)) (markedIn 1 (bitXor b 10))) 0x80)) (omega arith))
+    (xor-block 8 _ (each n 0x80) (bitAnd both 0x80) 0x80 (omega (arith, and-le-r both 0x80)) (omega arith))
 
--- trailing zeros of k bits more in front
+-- trailing zeros: behind j bits that are 0, and at a bit that is 1
 zeros : (j k w : ℕ) → trailingZeros (j + k) (w * 2 ^ j) ≡ j + trailingZeros k w
 unfolding trailingZeros
 zeros zero k w = rw (zero-add k, mul-one w, zero-add (trailingZeros k w))
@@ -65,7 +67,7 @@ odd : (k w : ℕ) → trailingZeros (suc k) (w * 2 + 1) ≡ 0
 unfolding trailingZeros
 odd k w = rw (digits-mod w {m = 2} {r = 1} (omega arith))
 
--- a byte in front, with a hit or with none
+-- one byte more, the lowest, without a hit or with one
 one : (t : Bool) (k w m : ℕ) → trailingZeros k w / 8 ≡ m → trailingZeros (8 + k) (w * 2 ^ 8 + cond t 0 0x80) / 8 ≡ cond t (suc m) 0
 one true k w m e =
     let f : (8 + trailingZeros k w) / 8 ≡ suc (trailingZeros k w / 8) = omega arith in
@@ -84,7 +86,7 @@ first-hit f (suc n) h =
     rw (z, hits-block n (wordOf (λ i. f (suc i)) n) (f 0) (h 0), hit (f 0) (h 0))
     (one (inLine (f 0)) (8 * n) _ _ (first-hit (λ i. f (suc i)) n (λ i. h (suc i))))
 
--- no hit at all: a byte in front, then n bytes
+-- no hit at all: one byte more, then n
 none : (t : Bool) (h m n : ℕ) → eqb h 0 ≡ eqb m n → eqb (h * 2 ^ 8 + cond t 0 0x80) 0 ≡ eqb (cond t (suc m) 0) (suc n)
 none true zero m n e = e ∙ sym (eqb·suc-suc m n)
 none true (suc h) m n e = ne-eqb (suc h * 2 ^ 8 + 0) 0 (λ q. omega arith) ∙ sym (eqb·suc-zero h) ∙ e ∙ sym (eqb·suc-suc m n)
