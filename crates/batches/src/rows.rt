@@ -16,7 +16,7 @@ pub(crate) const TOO_LONG: usize = 0x8000_0000_0000_000C;
 pub(crate) const UNFIT: usize = 0x8000_0000_0000_000F;
 
 // How many rows were taken, and the number that stopped there; 1 where no room was left.
-#[derive(Drop)]
+#[derive(Clone, Copy)]
 pub(crate) struct Took {
     pub(crate) rows: usize,
     pub(crate) last: usize,

@@ -6,7 +6,7 @@ ghost use Rattle.io.specs.Counts.{IsPrefixLen};
 use libc::{STDERR_FILENO, STDIN_FILENO, STDOUT_FILENO};
 
 // What was read: so many bytes at the front of the buffer; none, where a read failed.
-#[derive(Drop)]
+#[derive(Clone, Copy)]
 struct Input {
     len: usize,
     failed: bool,

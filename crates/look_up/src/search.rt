@@ -11,7 +11,7 @@ use tokenizer::{State, Token};
 
 // What the look-up answers: nothing, or the line of the key with the entry's part of the document, or the parser's refusal
 // with its number and line.
-#[derive(Drop)]
+#[derive(Clone, Copy)]
 pub enum Found {
     Nothing,
     At(usize, Part),
@@ -19,21 +19,21 @@ pub enum Found {
 }
 
 // The key that was wanted, once it is found: its line and its first byte's place.
-#[derive(Drop)]
+#[derive(Clone, Copy)]
 pub enum Hit {
     Nothing,
     At(usize, usize),
 }
 
 // Where the look-up stands: how many Indents and Outdents came, and the hit.
-#[derive(Drop)]
+#[derive(Clone, Copy)]
 pub struct Search {
     pub indents: usize,
     pub outdents: usize,
     pub hit: Hit,
 }
 
-#[derive(Drop)]
+#[derive(Clone, Copy)]
 pub enum Turn {
     Goes(Search),
     Ends(Found),

@@ -20,14 +20,14 @@ ghost use Rattle.parser.specs.Step.{
 use parser_rules::{Answer, Awaited, Change, Innermost, Kept, Ruling, Sort, Verdict, rule};
 
 // An open section: its sort, and the line of the key or item that opened it. The first is the top level, of line 0.
-#[derive(Drop)]
+#[derive(Clone, Copy)]
 pub struct Section {
     pub sort: Sort,
     pub line: usize,
 }
 
 // Where the parsing stands. The open sections, the Rust's stack, are the first `count` of `sections`.
-#[derive(Drop)]
+#[derive(Clone, Copy)]
 pub struct State {
     pub tokenizer: tokenizer::State,
     pub kept: Kept,
@@ -37,7 +37,7 @@ pub struct State {
     pub count: usize,
 }
 
-#[derive(Drop)]
+#[derive(Clone, Copy)]
 pub struct Step {
     pub answer: Answer,
     pub state: State,

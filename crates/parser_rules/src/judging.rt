@@ -4,7 +4,7 @@ ghost use Rattle.parser_rules.specs.Judging.{settled_by, after_entry_by, after_h
 
 // What is made of an answer: it is given on; NoValue, and it is kept; a section opens or closes; it fixes a map or a list; it is
 // a hint; it is the value; it is a refusal and given on; it is refused by a number, on its own line or, 4, on the entry's; End; unfit.
-#[derive(Drop)]
+#[derive(Clone, Copy)]
 pub enum Judged {
     GivesOn,
     NoValue,

@@ -10,7 +10,7 @@ use tokenizer::Token;
 
 // The parser's own answer: a token, with the line of the key or item whose section an Outdent closes, 0 for every other
 // kind; or a refusal with its number and line.
-#[derive(Drop)]
+#[derive(Clone, Copy)]
 pub enum Answer {
     End,
     Token(Token, usize),
@@ -18,7 +18,7 @@ pub enum Answer {
 }
 
 // The sort of a section, fixed by its first key or item.
-#[derive(Drop)]
+#[derive(Clone, Copy)]
 pub enum Sort {
     Unset,
     Map,
@@ -26,7 +26,7 @@ pub enum Sort {
 }
 
 // What must or may come next, with the line of the key or item that asks for it: the Rust's needs_value and multiline_hint.
-#[derive(Drop)]
+#[derive(Clone, Copy)]
 pub enum Awaited {
     Nothing,
     Value(usize),
@@ -34,7 +34,7 @@ pub enum Awaited {
 }
 
 // What came and was kept for the next call, behind a NoValue: the Rust's peek.
-#[derive(Drop)]
+#[derive(Clone, Copy)]
 pub enum Kept {
     Nothing,
     End,
@@ -43,7 +43,7 @@ pub enum Kept {
 
 // The sort of the innermost section, and the line of the key or item that opened it; missing where the record of
 // sections is empty.
-#[derive(Drop)]
+#[derive(Clone, Copy)]
 pub enum Innermost {
     Missing,
     Of(Sort, usize),
@@ -51,7 +51,7 @@ pub enum Innermost {
 
 // What becomes of the record of sections: nothing, the innermost one's sort is fixed, one opens for the key or item of
 // that line, the innermost closes.
-#[derive(Drop)]
+#[derive(Clone, Copy)]
 pub enum Change {
     Keep,
     Fix(Sort),
@@ -60,7 +60,7 @@ pub enum Change {
 }
 
 // What is said, and what it leaves.
-#[derive(Drop)]
+#[derive(Clone, Copy)]
 pub struct Verdict {
     pub answer: Answer,
     pub awaited: Awaited,
@@ -70,7 +70,7 @@ pub struct Verdict {
 }
 
 // End and an unfit state, 15, change nothing.
-#[derive(Drop)]
+#[derive(Clone, Copy)]
 pub enum Ruling {
     Says(Verdict),
     End,

@@ -5,7 +5,7 @@ ghost use Rattle.tokenizer.specs.Step.{step_of, fresh};
 
 use tokenizer::{Answer, State};
 
-#[derive(Drop)]
+#[derive(Clone, Copy)]
 pub struct Tokenizer<'tok> {
     doc: &'tok [u8],
     state: State,

@@ -12,7 +12,7 @@ use tokenizer::Said;
 use tokenizer_words::{flag_of, paste};
 
 // The answer, whether it is a refusal, what is awaited with its line, what is kept, and what becomes of the sections.
-#[derive(Drop)]
+#[derive(Clone, Copy)]
 pub(crate) struct Outcome {
     pub(crate) answer: Said,
     pub(crate) refused: bool,

@@ -24,7 +24,7 @@ use tokenizer_rules::Change;
 use tokenizer_words::paste;
 
 // Whose step it is: the tokenizer's, of the first 137 words, or the parser's.
-#[derive(Drop)]
+#[derive(Clone, Copy)]
 pub enum Layer {
     Tokenizer,
     Parser,

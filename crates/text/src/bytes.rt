@@ -5,14 +5,14 @@ use line_scans::line_sixteens;
 use text_scans::same_eights;
 
 // A part of a text: its bytes from start to before end.
-#[derive(Drop)]
+#[derive(Clone, Copy)]
 pub struct Part {
     pub start: usize,
     pub end: usize,
 }
 
 // The first byte of a text, where it has one.
-#[derive(Drop)]
+#[derive(Clone, Copy)]
 pub enum First {
     Byte(u8),
     Nothing,

@@ -6,7 +6,7 @@ use crate::bytes::{Part, is_newline, is_whitespace};
 use text_scans::space_eights;
 
 // Which bytes trimming drops.
-#[derive(Drop)]
+#[derive(Clone, Copy)]
 pub enum Dropped {
     Blanks,
     BlanksAndBreaks,

@@ -13,7 +13,7 @@ use text::Part;
 use tokenizer_rules::{Change, Marks, Plan, Says};
 
 // A state but for the open indentations.
-#[derive(Drop)]
+#[derive(Clone, Copy)]
 pub struct Front {
     pub place: usize,
     pub line: usize,
@@ -24,7 +24,7 @@ pub struct Front {
 
 // An answer in numbers: its kind, 0 for End, 256 and the number for a refusal; its line, its text and its indentation;
 // and the line that the parser adds to an Outdent, 0 else.
-#[derive(Drop)]
+#[derive(Clone, Copy)]
 pub struct Said {
     pub number: usize,
     pub line: usize,
@@ -36,7 +36,7 @@ pub struct Said {
 }
 
 // What a step says, the front after it, and what becomes of the open indentations: where one opens, it is `indent`.
-#[derive(Drop)]
+#[derive(Clone, Copy)]
 pub struct Advanced {
     pub said: Said,
     pub front: Front,

@@ -27,7 +27,7 @@ use text::{Dropped, Part};
 use tokenizer_rules::{Change, Marks, Plan, Says, plan_at};
 
 // What a step answers. A refusal has document 01's number, and its line.
-#[derive(Drop)]
+#[derive(Clone, Copy)]
 pub enum Answer {
     End,
     Token(Token),
@@ -35,14 +35,14 @@ pub enum Answer {
 }
 
 // The indentation that an Outdent left for the next step, if any: the Rust's current_indent.
-#[derive(Drop)]
+#[derive(Clone, Copy)]
 pub enum Held {
     Nothing,
     At(Part),
 }
 
 // Where the reading stands. The open indentations, the Rust's indent_stack, are the first `depth` of `indents`.
-#[derive(Drop)]
+#[derive(Clone, Copy)]
 pub struct State {
     pub place: usize,
     pub line: usize,
@@ -52,7 +52,7 @@ pub struct State {
     pub depth: usize,
 }
 
-#[derive(Drop)]
+#[derive(Clone, Copy)]
 pub struct Step {
     pub answer: Answer,
     pub state: State,
@@ -76,7 +76,7 @@ pub fn held_fits(held: Held, n: usize) -> bool
 }
 
 // Rule 1: the indentation of a step, and how many bytes of it stand at the place.
-#[derive(Drop)]
+#[derive(Clone, Copy)]
 pub(crate) struct Indentation {
     pub(crate) part: Part,
     pub(crate) size: usize,

@@ -5,7 +5,7 @@ use text::Part;
 
 // A token with its line and, where it has a text, that part of the document. A multiline value has its indentation's
 // part before its text's, as in the Rust.
-#[derive(Drop)]
+#[derive(Clone, Copy)]
 pub enum Token {
     Newline(usize),
     Comment(usize, Part),
@@ -20,7 +20,7 @@ pub enum Token {
 }
 
 // A name's bytes, zeros after them, and how many they are.
-#[derive(Drop)]
+#[derive(Clone, Copy)]
 pub struct Name {
     pub bytes: [u8; 16],
     pub len: usize,

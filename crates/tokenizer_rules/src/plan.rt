@@ -14,7 +14,7 @@ use tokenizer_scans::{
 pub const MAX_OPEN: usize = 64;
 
 // The three marks, the Rust's expect_indent, expect_value and expect_multiline.
-#[derive(Drop)]
+#[derive(Clone, Copy)]
 pub struct Marks {
     pub indent: bool,
     pub value: bool,
@@ -22,7 +22,7 @@ pub struct Marks {
 }
 
 // What a step says; the parts of texts are counted from the step's place.
-#[derive(Drop)]
+#[derive(Clone, Copy)]
 pub enum Says {
     End,
     Newline,
@@ -39,7 +39,7 @@ pub enum Says {
 
 // What becomes of the open sections: nothing, this indentation is opened, the innermost is closed, or it is closed and
 // this indentation held for the next step.
-#[derive(Drop)]
+#[derive(Clone, Copy)]
 pub enum Change {
     Keep,
     Open,
@@ -48,7 +48,7 @@ pub enum Change {
 }
 
 // What a step says, how many bytes it passes and lines it adds, the marks after it, and what becomes of the sections.
-#[derive(Drop)]
+#[derive(Clone, Copy)]
 pub struct Plan {
     pub says: Says,
     pub pass: usize,

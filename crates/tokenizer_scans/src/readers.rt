@@ -19,7 +19,7 @@ ghost use Rattle.tokenizer_scans.specs.Scans.{
 use text::{Dropped, First, Part, first_of, is_newline};
 
 // How an indentation lies to the innermost open one: the same bytes, longer and beginning with it, or neither.
-#[derive(Drop)]
+#[derive(Clone, Copy)]
 pub enum Relation {
     Equal,
     Deeper,
@@ -96,7 +96,7 @@ pub fn text_len(s: &[u8], also: u8) -> usize
 }
 
 // A text that was read: its trimmed part, or that it is not UTF-8.
-#[derive(Drop)]
+#[derive(Clone, Copy)]
 pub enum Text {
     Good(Part),
     Bad,
@@ -148,7 +148,7 @@ fn belongs(indent: &[u8], piece: &[u8]) -> bool
 }
 
 // The bytes of a multiline value, and the lines that they add.
-#[derive(Drop)]
+#[derive(Clone, Copy)]
 pub struct Lines {
     pub len: usize,
     pub count: usize,

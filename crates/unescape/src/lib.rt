@@ -11,7 +11,7 @@ pub use walk::Measured;
 
 // What unescaping answers: the plain part of the document or of the given text, the length of the text that was written,
 // or a refusal with its number, its line and, for an invalid escape code, the part that its message shows.
-#[derive(Drop)]
+#[derive(Clone, Copy)]
 pub enum Answer {
     Plain(Part),
     Written(usize),

@@ -8,7 +8,7 @@ ghost use Rattle.unescape.specs.Walk.{measured_of, WrittenFits, buffer_after};
 use unescape_pieces::{Piece, Spot, next_piece};
 
 // The length of the text that a meaning writes, or its refusal: the part of an invalid code, or a number.
-#[derive(Drop)]
+#[derive(Clone, Copy)]
 pub enum Measured {
     Length(usize),
     Code(usize, usize),

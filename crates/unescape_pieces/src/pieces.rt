@@ -22,7 +22,7 @@ const OPENING: u8 = b'{';
 const CLOSING: u8 = b'}';
 
 // What stands at the cursor: characters in quotes, a multiline value's first line, a later one, or the break after one.
-#[derive(Drop)]
+#[derive(Clone, Copy)]
 pub enum Spot {
     Quotes,
     FirstLine,
@@ -32,7 +32,7 @@ pub enum Spot {
 
 // A piece: the bytes passed but for so many in front, a scalar value, the end, an invalid escape code of so many bytes, or a
 // refusal 9, 10 or 11.
-#[derive(Drop)]
+#[derive(Clone, Copy)]
 pub enum Piece {
     Run(usize),
     Scalar(u32),
@@ -42,7 +42,7 @@ pub enum Piece {
 }
 
 // A piece, how many bytes of the text are passed with it, and what stands after them.
-#[derive(Drop)]
+#[derive(Clone, Copy)]
 pub struct Next {
     pub piece: Piece,
     pub pass: usize,

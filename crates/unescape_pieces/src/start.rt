@@ -6,7 +6,7 @@ use crate::pieces::{Spot, len_before};
 use text::{First, first_of};
 
 // How a text is read: as it stands, as a key or a value, or as a multiline value.
-#[derive(Drop)]
+#[derive(Clone, Copy)]
 pub enum Style {
     AsIs,
     Entry,
@@ -14,7 +14,7 @@ pub enum Style {
 }
 
 // What becomes of a text: a part of it is plain, or it is written piece by piece from a place on.
-#[derive(Drop)]
+#[derive(Clone, Copy)]
 pub enum Start {
     Plain(usize, usize),
     Pieces(usize, Spot),

@@ -9,7 +9,7 @@ use tokenizer::{State, Token};
 use unescape_pieces::Style;
 
 // A token's text, the empty part at 0 where it has none, and a multiline value's indentation.
-#[derive(Drop)]
+#[derive(Clone, Copy)]
 pub struct Source {
     pub style: Style,
     pub text: Part,
@@ -17,7 +17,7 @@ pub struct Source {
 }
 
 // A token's source, or why it may not be read: a number and a line.
-#[derive(Drop)]
+#[derive(Clone, Copy)]
 pub enum Checked {
     Readable(Source),
     Refused(usize, usize),

@@ -2,7 +2,7 @@ ghost use Rattle.std.specs.Prelude.{◌≡◌, ◌+◌, ◌%◌, ◌/◌};
 ghost use Rattle.utf8.specs.Scalar.{is_scalar, encoded_of};
 
 // The bytes that encode a scalar value, zeros after them, and how many they are: none for any other number.
-#[derive(Drop)]
+#[derive(Clone, Copy)]
 pub struct Encoded {
     pub bytes: [u8; 4],
     pub len: usize,

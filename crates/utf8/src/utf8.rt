@@ -5,7 +5,7 @@ use text::{First, first_of};
 use text_scans::ascii_eights;
 
 // What a lead byte says (Table 3-7): how many bytes follow, and the range of the second byte.
-#[derive(Drop)]
+#[derive(Clone, Copy)]
 pub enum Lead {
     Follow(usize, u8, u8),
     Bad,

@@ -4,7 +4,7 @@ ghost use Rattle.std.specs.Prelude.{◌≤◌};
 ghost use Rattle.io.specs.Counts.{IsPrefixLen};
 
 // The text of a line, and where its numbers begin, or the line ends: 0 where the line can't be read.
-#[derive(Drop)]
+#[derive(Clone, Copy)]
 pub struct Text {
     pub bytes: [u8; 256],
     pub len: usize,
@@ -12,7 +12,7 @@ pub struct Text {
 }
 
 // A number, and where it ends: 0 where none stands there.
-#[derive(Drop)]
+#[derive(Clone, Copy)]
 pub struct Number {
     pub value: usize,
     pub after: usize,

@@ -7,7 +7,7 @@ use crate::texts::{multiline_agrees, name_agrees, trimming_agrees, utf8_agrees, 
 use text::Dropped;
 
 // How many lines of each kind were checked, how many differ or can't be read, and the first of those.
-#[derive(Drop)]
+#[derive(Clone, Copy)]
 pub struct Tally {
     pub utf8: usize,
     pub trimming: usize,
@@ -22,7 +22,7 @@ pub struct Tally {
 }
 
 // What a line is.
-#[derive(Drop)]
+#[derive(Clone, Copy)]
 enum Checked {
     Utf8(bool),
     Trimming(bool),
