@@ -1,0 +1,38 @@
+-- `unescape` takes the branches of `text_of`; the five words go to the front.
+use mathlib.Core.Path.{◌≡◌, refl, sym, ◌∙◌}
+use mathlib.Core.Bool.{true}
+use native.Mathlib.Omega.{arith}
+use lib.ListN.{length}
+use borrow.Author.Tests.{lt-leb, le-leb, not-false}
+use Rattle.unescape.specs.declared.Answer.{Answer}
+use Rattle.unescape.specs.declared.Answer.TheVariants.{Plain, Written, Refused}
+use Rattle.answer_words.specs.Texts.{answer_words, has_answer, text_of}
+use Rattle.tokenizer_words.proofs.Pasting.{pasted-room, pasted-front}
+use Rattle.answer_words.proofs.texts.unescape.Goals as goal
+
+answer-5 : (a : Answer) → length (answer_words a) ≡ 5
+unfolding answer_words
+answer-5 (Plain p) = refl
+answer-5 (Written n) = refl
+answer-5 (Refused n l p) = refl
+
+told : (c : tie.Else1) → has_answer c.before.before.before.before.before.before.args.doc.now c.before.before.before.before.before.before.args.row.now ≡ true
+told c = sym c.before.has-answer.ensures ∙ not-false _ c.if1.false
+
+pub returns-then-not-has_answer : goal.returns-then-not-has_answer
+unfolding text_of
+returns-then-not-has_answer c = let e = sym c.has_answer.ensures ∙ c.if-not-has_answer.true in record { value = rw e; out_after = rw e; answer_after = rw e }
+
+pub returns-then-answer-lt5 : goal.returns-then-answer-lt5
+unfolding text_of
+returns-then-answer-lt5 c = let e = told c{-BARE Else1-} in let f = lt-leb _ _ c.if-answer-lt5.true in record { value = rw (e, f); out_after = rw (e, f); answer_after = rw (e, f) }
+
+pub returns : goal.returns
+unfolding text_of
+returns c =
+    let e = told c{-BARE Else1-} in
+    let f = le-leb _ _ c.if-answer-lt5.false in
+    let p = c.paste.ensures ∙ pasted-room _ _ _ (omega arith) in record { value = rw (e, f); out_after = (
+        rw (e, f) (rw c.token_in-t.ensures at c.unescape-a.ensures.out_after),
+        rw (e, f) (p ∙ rw (pasted-front, c.answer_words-w.ensures, c.unescape-a.ensures.value, c.token_in-t.ensures, answer-5)),
+      ); answer_after =  }

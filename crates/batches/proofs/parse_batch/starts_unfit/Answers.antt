@@ -1,0 +1,17 @@
+-- A batch of one stops by 15 if the first step does (proofs/Taking).
+use mathlib.Core.Path.{ap, ◌∙◌}
+use lib.Dec.{eqb}
+use borrow.Author.Tests.{lt-ltb, le-ltb}
+use Rattle.batches.specs.Walks.{stepping}
+use Rattle.step_words.specs.declared.step.Layer.TheVariants.{Parser}
+use Rattle.batches.proofs.Single.{not-unfit}
+use Rattle.batches.proofs.Taking.{last_one}
+use Rattle.batches.proofs.parse_batch.starts_unfit.Goals as goal
+
+pub returns-then-room-ge7 : goal.returns-then-room-ge7
+returns-then-room-ge7 c = rw (le-ltb _ _ c.if-room-ge7.true)
+
+pub returns : goal.returns
+returns c =
+    rw (lt-ltb _ _ c.if-room-ge7.false)
+    (ap (λ x. eqb x 271) c.take_rows-t.ensures.1.0 ∙ last_one (stepping Parser c.args.doc.now) c.args.words.now (not-unfit _))

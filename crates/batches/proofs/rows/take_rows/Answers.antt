@@ -1,0 +1,45 @@
+use Prim.Native.Nat.{◌-◌}
+use mathlib.Core.Path.{◌≡◌, refl, sym, ap, ◌∙◌}
+use mathlib.Core.Bool.{true, false}
+use native.Mathlib.Omega.{arith}
+use Rattle.step_words.specs.Stepping.{stops_at, Gone, step_in}
+use Rattle.step_words.proofs.Branches.{stop-stays, row-none, row_put}
+use Rattle.batches.proofs.Taking.{start, next, at-end, full, last-stop, last-full}
+use Rattle.batches.proofs.rows.take_rows.Goals as goal
+
+pub loop-n-init : goal.loop-n-init
+loop-n-init c = (refl, start _ _ _ _)
+
+pub shape_of-rows-then-stops : goal.shape_of-rows-then-stops
+shape_of-rows-then-stops c = c.step_in-last.auto.1.1.1.1.0 ∙ c.loop-n.invariant.0
+
+pub returns-then-stops : goal.returns-then-stops
+returns-then-stops c =
+    let g = step_in c.args.layer c.args.doc.now c.loop-n.w in
+    let e : stops_at g.said.number ≡ true = ap stops_at (sym c.step_in-last.ensures.0) ∙ sym c.stops.ensures ∙ c.if-stops.true in
+    let d = at-end _ _ _ _ c.loop-n.invariant.1 e in (
+      d.0,
+      (
+        c.step_in-last.ensures.0 ∙ sym (last-stop _ _ _ _ c.loop-n.invariant.1 c.loop-n-test.true d),
+        (
+          c.step_in-last.ensures.1.0 ∙ ap (λ (x : Gone). x.words) (stop-stays c.args.layer c.args.doc.now c.loop-n.w e) ∙ d.1.0,
+          c.step_in-last.ensures.1.1 ∙ row-none g.said _ c.loop-n.rows e ∙ d.1.1,
+        ),
+      ),
+    )
+
+pub loop-n-preserved : goal.loop-n-preserved
+loop-n-preserved c =
+    let g = step_in c.args.layer c.args.doc.now c.loop-n.w in
+    let e : stops_at g.said.number ≡ false = ap stops_at (sym c.step_in-last.ensures.0) ∙ sym c.stops.ensures ∙ c.if-stops.false in
+    (
+      c.step_in-last.auto.1.1.1.1.0 ∙ c.loop-n.invariant.0,
+      next _ _ _ _ c.loop-n.invariant.1 c.loop-n-test.true (omega (arith, c.loop-n-test.true, c.loop-n.invariant.0)) e (c.step_in-last.ensures.1.1 ∙ row_put g.said _ c.loop-n.rows e) c.step_in-last.ensures.1.0,
+    )
+
+pub shape_of-rows : goal.shape_of-rows
+shape_of-rows c = c.loop-n.invariant.0
+
+pub returns : goal.returns
+returns c =
+    let d = full _ _ _ _ c.loop-n.invariant.1 c.loop-n-test.false in record { rows_value = d.0; last_value = sym (last-full _ _ _ _ c.loop-n.invariant.1 c.loop-n-test.false d); w_after = d.1.0; rows_after = d.1.1 }

@@ -1,0 +1,26 @@
+-- `look_up` takes the branches of `found_in`; the five words go to the front.
+use mathlib.Core.Path.{◌≡◌, refl, sym, ◌∙◌}
+use native.Mathlib.Omega.{arith}
+use lib.ListN.{length}
+use borrow.Author.Tests.{lt-leb, le-leb}
+use Rattle.look_up.specs.declared.search.Found.{Found}
+use Rattle.look_up.specs.declared.search.Found.TheVariants.{Nothing, At, Refused}
+use Rattle.found_words.specs.Found.{found_words, found_in}
+use Rattle.tokenizer_words.proofs.Pasting.{pasted-room, pasted-front}
+use Rattle.found_words.proofs.found.look_up.Goals as goal
+
+found-5 : (f : Found) → length (found_words f) ≡ 5
+unfolding found_words
+found-5 Nothing = refl
+found-5 (At l p) = refl
+found-5 (Refused n l) = refl
+
+pub returns-then-answer-lt5 : goal.returns-then-answer-lt5
+unfolding found_in
+returns-then-answer-lt5 c = let e = lt-leb _ _ c.if-answer-lt5.true in record { value = sym e; answer_after = rw e }
+
+pub returns : goal.returns
+unfolding found_in
+returns c =
+    let e = le-leb _ _ c.if-answer-lt5.false in
+    let p = c.paste.ensures ∙ pasted-room _ _ _ (omega arith) in record { value = sym e; answer_after = rw e (p ∙ rw (pasted-front, c.found_words-w.ensures, c.look_up.ensures, found-5)) }

@@ -1,0 +1,16 @@
+-- What stands for nothing is read before the words are copied over.
+use mathlib.Core.Path.{sym, ap, ◌∙◌}
+use lib.Seq.{length-take-le}
+use Rattle.tokenizer_words.specs.Words.{pasted_in, held_words, state_in}
+use Rattle.parser_words.proofs.words.copy_parser.Goals as goal
+
+pub slice_bounds-paste-end : goal.slice_bounds-paste-end
+slice_bounds-paste-end c =
+    sym (length-take-le 278 c.args.src.now c.requires)
+
+pub returns : goal.returns
+unfolding state_in
+returns c =
+    c.paste-3.ensures
+    ∙ (λ j. pasted_in (c.middle_in-m.ensures j) 137 ((c.paste-2.ensures
+    ∙ (λ k. pasted_in ((c.held_words-h.ensures ∙ ap held_words c.held_by-held.ensures) k) 5 (c.paste.ensures k))) j))

@@ -1,0 +1,42 @@
+use Prim.Native.Nat.{◌-◌}
+use mathlib.Core.Path.{sym, ◌∙◌}
+use mathlib.Core.Logic.{⊎_elim}
+use native.Mathlib.Nat.{add-zero}
+use native.Mathlib.Omega.{arith}
+use lib.Seq.{length-take-le}
+use borrow.Author.Tests.{not-true, not-false}
+use Rattle.text.proofs.Front.{from}
+use Rattle.tokenizer_scans.proofs.Pieces.{piece-le, piece-at, none_passed, again, stop, end}
+use Rattle.tokenizer_scans.proofs.readers.multiline_len.Goals as goal
+
+pub loop-len-init : goal.loop-len-init
+loop-len-init c = none_passed _ _
+
+pub slice_bounds-piece-end : goal.slice_bounds-piece-end
+slice_bounds-piece-end c = sym (length-take-le _ _ (rw c.piece_len-n.ensures (piece-le _)))
+
+pub returns-then-not-belongs : goal.returns-then-not-belongs
+returns-then-not-belongs c =
+    sym
+    (stop _ _ c.loop-len.invariant (rw from at c.piece_len-n.ensures)
+    (sym (rw from at c.belongs.ensures) ∙ c.if-not-belongs.true))
+
+pub overflow_add-len : goal.overflow_add-len
+overflow_add-len c =
+    omega (arith, piece-at _ _ c.loop-len-test.true (rw from at c.piece_len-n.ensures))
+
+pub loop-len-smaller : goal.loop-len-smaller
+loop-len-smaller c =
+    omega (arith, piece-at _ _ c.loop-len-test.true (rw from at c.piece_len-n.ensures))
+
+pub loop-len-preserved : goal.loop-len-preserved
+loop-len-preserved c =
+    again _ _ c.loop-len.invariant c.loop-len-test.true
+    (rw from at c.piece_len-n.ensures)
+    (sym (rw from at c.belongs.ensures) ∙ c.if-not-belongs.false)
+    (⊎_elim (λ w. w.2 ∙ rw from at w.1.ensures ∙ rw w.0.taken) (λ w. w.1 ∙ rw w.0.left) c.if-was_cr.branch)
+    (⊎_elim (λ w. w.1 ∙ rw (not-true c.if-was_cr.value w.0.taken)) (λ w. w.1 ∙ rw (not-false c.if-was_cr.value w.0.left, add-zero)) c.if-not-is_lf.branch)
+    (rw from at c.ends_in_cr-was_cr.ensures)
+
+pub returns : goal.returns
+returns c = sym (end _ _ c.loop-len.invariant c.loop-len-test.false)

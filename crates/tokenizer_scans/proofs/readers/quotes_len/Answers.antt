@@ -1,0 +1,44 @@
+use Rattle.std.proofs.Common.{rules}
+use Prim.Native.Nat.{◌-◌}
+use mathlib.Core.Path.{sym, ◌∙◌}
+use mathlib.Core.Logic.{⊎_elim}
+use borrow.Author.Tests.{eq-eqb, ne_eqb}
+use Rattle.text.proofs.Front.{some}
+use Rattle.tokenizer_scans.proofs.Quotes.{at-break, close, more, end, no-quotes, begins}
+use Rattle.tokenizer_scans.proofs.readers.quotes_len.Goals as goal
+
+pub returns-in_default : goal.returns-in_default
+returns-in_default c = sym (no-quotes _ (sym c.first_of.ensures ∙ c.in_default.is))
+
+pub returns-then-first-ne34 : goal.returns-then-first-ne34
+returns-then-first-ne34 c =
+    sym (begins _ _ (sym c.first_of.ensures ∙ c.in-Byte.is) ∙ rw (ne_eqb _ _ c.if-first-ne34.true))
+
+pub loop-i-init : goal.loop-i-init
+loop-i-init c =
+    let e = sym c.first_of.ensures ∙ c.in-Byte.is in
+    (some _ _ e, begins _ _ e ∙ rw (eq-eqb _ _ c.if-first-ne34.false))
+
+pub returns-then-is_newline : goal.returns-then-is_newline
+returns-then-is_newline c =
+    sym (c.loop-i.invariant.1 ∙ at-break _ _ _ c.loop-i-test.true (sym c.is_newline.ensures ∙ c.if-is_newline.true))
+
+pub returns-then-not-escaped : goal.returns-then-not-escaped
+returns-then-not-escaped c =
+    sym
+    (c.loop-i.invariant.1
+    ∙ close _ _ _ c.loop-i-test.true (sym c.is_newline.ensures ∙ c.if-is_newline.false)
+    (rw (eq-eqb _ _ c.if-b-eq34.true) c.if-not-escaped.true-raw))
+
+pub loop-i-preserved : goal.loop-i-preserved
+loop-i-preserved c =
+    (
+      search rules,
+      c.loop-i.invariant.1
+          ∙ more _ _ _ c.loop-i-test.true (sym c.is_newline.ensures ∙ c.if-is_newline.false)
+          (⊎_elim (λ w. rw (eq-eqb _ _ w.0.taken) w.1.left) (λ w. rw (ne_eqb _ _ w.left)) c.else-b-eq34.branch)
+          (⊎_elim (λ w. w.1 ∙ rw (eq-eqb _ _ w.0.taken)) (λ w. w.1 ∙ rw (ne_eqb _ _ w.0.left)) c.if-b-eq92.branch),
+    )
+
+pub returns : goal.returns
+returns c = sym (c.loop-i.invariant.1 ∙ end _ _ _ c.loop-i-test.false)
