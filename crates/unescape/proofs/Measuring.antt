@@ -5,7 +5,7 @@ use mathlib.Core.List.{List, [], ◌++◌}
 use native.Mathlib.Omega.{arith}
 use lib.ListN.{length, take, drop, length-append}
 use Rattle.utf8.specs.Scalar.{encoding_of}
-use Rattle.utf8.proofs.Encoded.{encoding-le}
+use Rattle.utf8.proofs.Encodings.{encoding-le}
 use Rattle.unescape_pieces.specs.Meaning.{Meaning}
 use Rattle.unescape_pieces.specs.Pieces.{next_of, meaning_from}
 use Rattle.unescape_pieces.specs.declared.pieces.Spot.{Spot}

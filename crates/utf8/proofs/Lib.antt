@@ -5,7 +5,7 @@ pub mod Skipped
 pub mod Rows
 pub mod Wide
 pub mod Scalars
-pub mod Encoded
+pub mod Encodings
 pub mod Unicode
 pub mod Trimmed
 pub mod Joins

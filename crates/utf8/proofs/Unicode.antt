@@ -230,7 +230,7 @@ decode b₀ v₀ [] h b s e = absurd (false≢true e)
 decode b₀ v₀ (row f from to ∷ rs) h b s e =
     by_bool (within (lead f from) (lead f to) b)
     (λ t. here (within-bounds _ _ b t) (owes-view _ _ _ s (rw t at e)))
-    (λ t. decode _ _ rs h.1 b s (rw t at e))
+    (λ t. decode (suc (lead f to)) _ rs h.1 b s (rw t at e))
   where
     here : (lead f from ≤ b) × (b ≤ lead f to)
         → Followed (suc (more f)) (second f from) (second f to) s × (utf8 (drop (suc (more f)) s) ≡ true) → First b s
@@ -281,7 +281,7 @@ accept b₀ v₀ [] h v k l = absurd (h v k l)
 accept b₀ v₀ (row f from to ∷ rs) h v k l =
     by_bool (leb v to)
     (λ e. here (h.0.gapless v k l) (leb-true v to e))
-    (λ e. further (accept _ _ rs h.1 v k (leb-false v to e)))
+    (λ e. further (accept (suc (lead f to)) _ rs h.1 v k (leb-false v to e)))
   where
     here : from ≤ v → v ≤ to → Accepted b₀ (row f from to ∷ rs) v
     here low high =

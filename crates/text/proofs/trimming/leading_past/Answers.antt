@@ -6,7 +6,7 @@ use Prim.Native.Nat.{◌-◌}
 use Rattle.text.proofs.trimming.leading_past.Goals as goal
 
 pub loop-i-init : goal.loop-i-init
-loop-i-init c = c.requires
+loop-i-init c = (c.requires.known_in_bounds, c.requires.s_value)
 
 pub returns-then-not-drops : goal.returns-then-not-drops
 returns-then-not-drops c =

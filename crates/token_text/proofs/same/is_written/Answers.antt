@@ -10,7 +10,7 @@ use Rattle.unescape_pieces.specs.Pieces.{meaning_from, next_of}
 use Rattle.unescape_pieces.specs.declared.pieces.Piece.TheVariants.{Run}
 use Rattle.unescape_pieces.proofs.Ends.{Ends, pieces_end}
 use Rattle.unescape_pieces.proofs.Turns.{run-skips, run-moves, scalar-moves, run-bytes}
-use Rattle.utf8.proofs.Encoded.{encoded-len, encoded-bytes, encoded-le}
+use Rattle.utf8.proofs.Encodings.{encoded-len, encoded-bytes, encoded-le}
 use Rattle.token_text.proofs.Matching.{none-matched, match-run, match-scalar, run-differs, scalar-differs, end-matched, code-matched, refused-matched}
 use Rattle.token_text.proofs.same.is_written.Goals as goal
 

@@ -4,7 +4,7 @@ use native.Mathlib.Omega.{arith}
 use Rattle.utf8.specs.declared.scalar.Encoded.{Encoded}
 use Rattle.text.proofs.Front.{from}
 use Rattle.unescape_pieces.proofs.Turns.{run-skips, run-moves, scalar-moves, code-within}
-use Rattle.utf8.proofs.Encoded.{encoded-len}
+use Rattle.utf8.proofs.Encodings.{encoded-len}
 use Rattle.unescape.proofs.Measuring.{none-counted, count-run, count_scalar, end-measured, code-measured, refused-measured}
 use Rattle.unescape.proofs.walk.measure.Goals as goal
 

@@ -1,7 +1,7 @@
 -- `put` copies the bytes that `encode` gives.
 use mathlib.Core.Path.{sym, ◌∙◌}
 use lib.Seq.{length-take-le}
-use Rattle.utf8.proofs.Encoded.{encoded-len, encoded-le, encoded-bytes}
+use Rattle.utf8.proofs.Encodings.{encoded-len, encoded-le, encoded-bytes}
 use Rattle.unescape.proofs.walk.put.Goals as goal
 
 pub slice_bounds-bytes-end : goal.slice_bounds-bytes-end

@@ -2,24 +2,19 @@
 use Rattle.utf8.proofs.Wide.{least, most, short, three}
 use lib.ListN.{get_or}
 use borrow.Author.Tests.{eq-eqb, ne_eqb}
-use mathlib.Core.Logic.{⊎_elim}
 use mathlib.Core.Path.{◌≡◌, sym, ◌∙◌}
 use Rattle.utf8.proofs.utf8.is_three.Goals as goal
-
--- the range of the second byte, where the arms have met
-low-is : (c : tie.Joined2) → c.if2.low ≡ least (get_or c.before.before.before.before.args.s.now 0 0)
-low-is c =
-    ⊎_elim (λ w. w.1 ∙ rw (eq-eqb _ _ w.0.taken)) (λ w. w.1 ∙ rw (ne_eqb _ _ w.0.left)) c.if2.branch
-
-high_is : (c : tie.Joined3)
-    → c.if3.high ≡ most (get_or c.before.before.before.before.before.before.args.s.now 0 0)
-high_is c =
-    ⊎_elim (λ w. w.1 ∙ rw (eq-eqb _ _ w.0.taken)) (λ w. w.1 ∙ rw (ne_eqb _ _ w.0.left)) c.if3.branch
+use Rattle.utf8.proofs.utf8.is_three.Goals.{then-s, else-s, then-s-2, else-s-2}
 
 pub returns-then-s-lt3 : goal.returns-then-s-lt3
 returns-then-s-lt3 c = sym (short 3 _ c.if-s-lt3.true)
 
+-- the range of the second byte, where the arms have met
 pub returns : goal.returns
 returns c =
-    rw (c.is_within.ensures, c.is_within-2.ensures, c.is_within-3.ensures, low-is c{-BARE Joined2-}, high_is c{-BARE Joined3-})
-    (three _ c.if-s-lt3.false)
+    let first = get_or c.args.s.now 0 0 in
+    let low : c.if-s.low ≡ least first =
+        elim c.if-s.branch [ then-s w ↦ w.low-is ∙ rw (eq-eqb _ _ w.if-s.true) | else-s w ↦ w.low-is ∙ rw (ne_eqb _ _ w.if-s.false) ] in
+    let high : c.if-s-2.high ≡ most first =
+        elim c.if-s-2.branch [ then-s-2 w ↦ w.high-is ∙ rw (eq-eqb _ _ w.if-s-2.true) | else-s-2 w ↦ w.high-is ∙ rw (ne_eqb _ _ w.if-s-2.false) ] in
+    rw (c.is_within.ensures, c.is_within-2.ensures, c.is_within-3.ensures, low, high) (three _ c.if-s-lt3.false)
