@@ -27,4 +27,4 @@ returns-in-6 c =
 pub returns-in_default : goal.returns-in_default
 unfolding on_row
 returns-in_default c =
-    rw (lt-leb 256 _ c.if-number-ge256.false, ne_eqb _ 0 c.in_default.rest.0.0.0.1, ne_eqb _ 3 c.in_default.rest.0.0.1, ne_eqb _ 4 c.in_default.rest.0.1, ne_eqb _ 6 c.in_default.rest.1)
+    rw (lt-leb 256 _ c.if-number-ge256.false, ne_eqb _ 0 c.in_default.in_default-own.rest.0.0.0.1, ne_eqb _ 3 c.in_default.in_default-own.rest.0.0.1, ne_eqb _ 4 c.in_default.in_default-own.rest.0.1, ne_eqb _ 6 c.in_default.in_default-own.rest.1)

@@ -29,4 +29,4 @@ returns-in-8 c = rw c.in-8.is
 
 pub returns-in_default : goal.returns-in_default
 unfolding after_entry_by
-returns-in_default c = rw (ne_eqb _ 1 c.in_default.rest.0.0.0.0.1, ne_eqb _ 2 c.in_default.rest.0.0.0.1, ne_eqb _ 3 c.in_default.rest.0.0.1, ne_eqb _ 7 c.in_default.rest.0.1, ne_eqb _ 8 c.in_default.rest.1)
+returns-in_default c = rw (ne_eqb _ 1 c.in_default.in_default-own.rest.0.0.0.0.1, ne_eqb _ 2 c.in_default.in_default-own.rest.0.0.0.1, ne_eqb _ 3 c.in_default.in_default-own.rest.0.0.1, ne_eqb _ 7 c.in_default.in_default-own.rest.0.1, ne_eqb _ 8 c.in_default.in_default-own.rest.1)

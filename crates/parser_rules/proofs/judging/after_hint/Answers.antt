@@ -17,4 +17,4 @@ returns-in-9 c = rw c.in-9.is
 
 pub returns-in_default : goal.returns-in_default
 unfolding after_hint_by
-returns-in_default c = rw (ne_eqb _ 1 c.in_default.rest.0.0.1, ne_eqb _ 2 c.in_default.rest.0.1, ne_eqb _ 9 c.in_default.rest.1)
+returns-in_default c = rw (ne_eqb _ 1 c.in_default.in_default-own.rest.0.0.1, ne_eqb _ 2 c.in_default.in_default-own.rest.0.1, ne_eqb _ 9 c.in_default.in_default-own.rest.1)

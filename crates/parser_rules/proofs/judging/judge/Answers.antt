@@ -17,4 +17,4 @@ returns-in-2 c = rw (c.after_hint.ensures, lt-leb 256 _ c.if-number-ge256.false,
 
 pub returns-in_default : goal.returns-in_default
 unfolding judged_by
-returns-in_default c = rw (c.settle.ensures, lt-leb 256 _ c.if-number-ge256.false, ne_eqb _ 1 c.in_default.rest.0.1, ne_eqb _ 2 c.in_default.rest.1)
+returns-in_default c = rw (c.settle.ensures, lt-leb 256 _ c.if-number-ge256.false, ne_eqb _ 1 c.in_default.in_default-own.rest.0.1, ne_eqb _ 2 c.in_default.in_default-own.rest.1)

@@ -10,7 +10,7 @@ pub slice_bounds-plain_len-count : goal.slice_bounds-plain_len-count
 slice_bounds-plain_len-count c = rw c.quotes_len-quotes.ensures (quotes-le _)
 
 pub slice_bounds-plain_len-start : goal.slice_bounds-plain_len-start
-slice_bounds-plain_len-start c = let h = sub-plain-len c in search rules
+slice_bounds-plain_len-start c = let h = slice_bounds-plain_len-count c in search rules
 
 pub returns : goal.returns
 unfolding text_end
