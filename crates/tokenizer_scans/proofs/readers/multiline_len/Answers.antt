@@ -1,13 +1,12 @@
 use Prim.Native.Nat.{◌-◌}
 use mathlib.Core.Path.{sym, ◌∙◌}
-use mathlib.Core.Logic.{⊎_elim}
 use native.Mathlib.Nat.{add-zero}
 use native.Mathlib.Omega.{arith}
 use lib.Seq.{length-take-le}
-use borrow.Author.Tests.{not-true, not-false}
 use Rattle.text.proofs.Front.{from}
 use Rattle.tokenizer_scans.proofs.Pieces.{piece-le, piece-at, none_passed, again, stop, end}
 use Rattle.tokenizer_scans.proofs.readers.multiline_len.Goals as goal
+use Rattle.tokenizer_scans.proofs.readers.multiline_len.Goals.{then-was_cr, else-was_cr, then-not-is_lf, else-not-is_lf}
 
 pub loop-len-init : goal.loop-len-init
 loop-len-init c = none_passed _ _
@@ -34,8 +33,8 @@ loop-len-preserved c =
     again _ _ c.loop-len.invariant c.loop-len-test.true
     (rw from at c.piece_len-n.ensures)
     (sym (rw from at c.belongs.ensures) ∙ c.if-not-belongs.false)
-    (⊎_elim (λ w. w.2 ∙ rw from at w.1.ensures ∙ rw w.0.taken) (λ w. w.1 ∙ rw w.0.left) c.if-was_cr.branch)
-    (⊎_elim (λ w. w.1 ∙ rw (not-true c.if-was_cr.value w.0.taken)) (λ w. w.1 ∙ rw (not-false c.if-was_cr.value w.0.left, add-zero)) c.if-not-is_lf.branch)
+    (elim c.if-was_cr.branch [ then-was_cr w ↦ w.value-is ∙ rw from at w.is_lf.ensures ∙ rw w.if-was_cr.true | else-was_cr w ↦ w.value-is ∙ rw w.if-was_cr.false ])
+    (elim c.if-not-is_lf.branch [ then-not-is_lf w ↦ w.count-is ∙ rw w.if-not-is_lf.true | else-not-is_lf w ↦ w.count-is ∙ rw (w.if-not-is_lf.false, add-zero) ])
     (rw from at c.ends_in_cr-was_cr.ensures)
 
 pub returns : goal.returns

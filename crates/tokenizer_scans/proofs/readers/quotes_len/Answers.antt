@@ -1,11 +1,16 @@
 use Rattle.std.proofs.Common.{rules}
 use Prim.Native.Nat.{◌-◌}
 use mathlib.Core.Path.{sym, ◌∙◌}
-use mathlib.Core.Logic.{⊎_elim}
 use borrow.Author.Tests.{eq-eqb, ne_eqb}
 use Rattle.text.proofs.Front.{some}
 use Rattle.tokenizer_scans.proofs.Quotes.{at-break, close, more, end, no-quotes, begins}
 use Rattle.tokenizer_scans.proofs.readers.quotes_len.Goals as goal
+use Rattle.tokenizer_scans.proofs.readers.quotes_len.Goals.{
+  else-b-eq34-via-then-b-eq34+else-not-escaped,
+  else-b-eq34-via-else-b-eq34,
+  then-b-eq92,
+  else-b-eq92,
+}
 
 pub returns-in_default : goal.returns-in_default
 returns-in_default c = sym (no-quotes _ (sym c.first_of.ensures ∙ c.in_default.is))
@@ -28,7 +33,7 @@ returns-then-not-escaped c =
     sym
     (c.loop-i.invariant.1
     ∙ close _ _ _ c.loop-i-test.true (sym c.is_newline.ensures ∙ c.if-is_newline.false)
-    (rw (eq-eqb _ _ c.if-b-eq34.true) c.if-not-escaped.true-raw))
+    (rw (eq-eqb _ _ c.if-b-eq34.true, c.if-not-escaped.true)))
 
 pub loop-i-preserved : goal.loop-i-preserved
 loop-i-preserved c =
@@ -36,8 +41,8 @@ loop-i-preserved c =
       search rules,
       c.loop-i.invariant.1
           ∙ more _ _ _ c.loop-i-test.true (sym c.is_newline.ensures ∙ c.if-is_newline.false)
-          (⊎_elim (λ w. rw (eq-eqb _ _ w.0.taken) w.1.left) (λ w. rw (ne_eqb _ _ w.left)) c.else-b-eq34.branch)
-          (⊎_elim (λ w. w.1 ∙ rw (eq-eqb _ _ w.0.taken)) (λ w. w.1 ∙ rw (ne_eqb _ _ w.0.left)) c.if-b-eq92.branch),
+          (elim c.else-b-eq34.branch [ else-b-eq34-via-then-b-eq34+else-not-escaped w ↦ rw (eq-eqb _ _ w.if-b-eq34.true, w.if-not-escaped.false) | else-b-eq34-via-else-b-eq34 w ↦ rw (ne_eqb _ _ w.if-b-eq34.false) ])
+          (elim c.if-b-eq92.branch [ then-b-eq92 w ↦ w.escaped-is ∙ rw (eq-eqb _ _ w.if-b-eq92.true) | else-b-eq92 w ↦ w.escaped-is ∙ rw (ne_eqb _ _ w.if-b-eq92.false) ]),
     )
 
 pub returns : goal.returns
