@@ -49,7 +49,7 @@ use Rattle.joining_claims.proofs.Unescaping.{token-above, token-below, each-toke
 use Rattle.joining_claims.proofs.Feeding.{fed, parsed-append, parsed-end, refused-append, fed-stops}
 use Rattle.joining_claims.proofs.RaisedParse.{top, Rises, parsed-raised}
 use Rattle.joining_claims.proofs.Tops.{level, misses, Runs, done, more, runs_append, top-sort}
-use Rattle.joining_claims.proofs.Behind.{stands_at_top, hinted, behind, entry-after}
+use Rattle.joining_claims.proofs.Behind.{at_top, hinted, behind, entry-after}
 use Rattle.joining_claims.proofs.AtTop.{stands_at_top}
 
 -- a raised entry is one of the same sort, l lines further on
@@ -61,14 +61,14 @@ entry-raised l n key = key
 -- The end of P, as its own list has it
 
 -- a hint is refused there, and nothing else is
-pub end_refused : (a : Awaited) (s : Sort) → refused_in (feed (stands_at_top a s) came.End).says ≡ hinted a
+pub end_refused : (a : Awaited) (s : Sort) → refused_in (feed (at_top a s) came.End).says ≡ hinted a
 unfolding feed ruling_of on_end refused_in
 end_refused awaited.Nothing s = refl
 end_refused (awaited.Value m) s = refl
 end_refused (awaited.Multiline m) s = refl
 
 -- the sections stay
-pub end-runs : (a : Awaited) (s : Sort) → hinted a ≡ false → Runs (level s ∷ []) (feed (stands_at_top a s) came.End).says (level s ∷ [])
+pub end-runs : (a : Awaited) (s : Sort) → hinted a ≡ false → Runs (level s ∷ []) (feed (at_top a s) came.End).says (level s ∷ [])
 unfolding feed ruling_of on_end
 end-runs awaited.Nothing s e = done
 end-runs (awaited.Value m) s e = more {sections = level s ∷ []} misses (omega arith) done
@@ -77,11 +77,11 @@ end-runs (awaited.Multiline m) s e = absurd (clash e)
 -- Clause 3 where P went on: its answers w, what it awaits, and the sort of its top level
 module _ (w : List Answer) (a : Awaited) (s : Sort) (f : refused_in w ≡ false) (r : Runs (no_sort ∷ []) w (level s ∷ [])) where
   ended : List Answer
-  ended = w ++ (feed (stands_at_top a s) came.End).says
+  ended = w ++ (feed (at_top a s) came.End).says
 
   ended-refused : refused_in ended ≡ hinted a
   unfolding ended
-  ended-refused = refused-append w (feed (stands_at_top a s) came.End).says ∙ rw (f, end_refused a s)
+  ended-refused = refused-append w (feed (at_top a s) came.End).says ∙ rw (f, end_refused a s)
 
   ended-sort : hinted a ≡ false → top_sort ended ≡ s
   unfolding ended
@@ -89,19 +89,19 @@ module _ (w : List Answer) (a : Awaited) (s : Sort) (f : refused_in w ≡ false)
 
   module _ (l n : ℕ) (t : Token) (e : Entry t (line_of t) (entry_sort t)) (cs : List Came)
       (u : All Rises (parsed fresh_stand (came.Token t ∷ cs))) where
-    entry-joined : hinted a ≡ false → parsed (stands_at_top awaited.Nothing s) (raised l n (came.Token t ∷ cs))
+    entry-joined : hinted a ≡ false → parsed (at_top awaited.Nothing s) (raised l n (came.Token t ∷ cs))
         ≡ below ended t l (map (raise_answer l n) (parsed fresh_stand (came.Token t ∷ cs)))
     unfolding raise
     entry-joined h =
         entry-after s (raised l n cs) (entry-raised l n e)
         ∙ rw (ended-refused, h, ended-sort h, parsed-raised l n awaited.Nothing top (came.Token t ∷ cs) u)
 
-    list-joined : w ++ parsed (stands_at_top a s) (raised l n (came.Token t ∷ cs))
+    list-joined : w ++ parsed (at_top a s) (raised l n (came.Token t ∷ cs))
         ≡ ended ++ below ended t l (map (raise_answer l n) (parsed fresh_stand (came.Token t ∷ cs)))
     unfolding raise ended
     list-joined =
         ap (λ (m : List Answer). w ++ m) (behind a s (raised l n cs) (entry-raised l n e))
-        ∙ sym (append_assoc w (feed (stands_at_top a s) came.End).says _)
+        ∙ sym (append_assoc w (feed (at_top a s) came.End).says _)
         ∙ ap (λ (m : List Answer). ended ++ m) (by_bool (hinted a) (λ h. rw (ended-refused, h)) (λ h. rw h (entry-joined h)))
 
 -- every answer of a parsing rises
@@ -164,13 +164,13 @@ module _ (p s : List ℕ) (c : Closed p) (b : top_level s ≡ true) (h : length 
       let w = f.says in
       let x = f.next.awaited in
       let o = stands_at_top p p-le g in
-      let n : f.next ≡ stands_at_top x o.sort = λ i. record { awaited = x; sections = o.sections i } in
-      let a : parse p ≡ w ++ (feed (stands_at_top x o.sort) came.End).says =
+      let n : f.next ≡ at_top x o.sort = λ i. record { awaited = x; sections = o.sections i } in
+      let a : parse p ≡ w ++ (feed (at_top x o.sort) came.End).says =
       parse-above ∙ ap (λ (on : Bool). w ++ cond on (feed f.next came.End).says []) g ∙ ap (λ (y : Stand). w ++ (feed y came.End).says) n in
-      let b : parse (p ++ s) ≡ w ++ parsed (stands_at_top x o.sort) (raised (breaks p) (length p) (came.Token t ∷ cs)) =
+      let b : parse (p ++ s) ≡ w ++ parsed (at_top x o.sort) (raised (breaks p) (length p) (came.Token t ∷ cs)) =
       parse-both ∙ ap (λ (on : Bool). w ++ cond on (parsed f.next (raised (breaks p) (length p) (tokens s))) []) g
       ∙ ap (λ (y : Stand). w ++ parsed y (raised (breaks p) (length p) (tokens s))) n
-      ∙ ap (λ (l : List Came). w ++ parsed (stands_at_top x o.sort) (raised (breaks p) (length p) l)) q in
+      ∙ ap (λ (l : List Came). w ++ parsed (at_top x o.sort) (raised (breaks p) (length p) l)) q in
       let d : parse s ≡ parsed fresh_stand (came.Token t ∷ cs) = parse-within s s-le ∙ ap (parsed fresh_stand) q in
       rw (a, d)
       (b

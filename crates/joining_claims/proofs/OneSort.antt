@@ -16,7 +16,7 @@ use Rattle.parser_claims.proofs.Claimed.{parse-within}
 use Rattle.joining_claims.specs.TopSort.{OfSort, OneSort}
 use Rattle.joining_claims.proofs.Feeding.{fed, parsed-end, refused-append, fed-stops}
 use Rattle.joining_claims.proofs.Tops.{runs_append, top-sorts}
-use Rattle.joining_claims.proofs.Behind.{stands_at_top, hinted}
+use Rattle.joining_claims.proofs.Behind.{at_top, hinted}
 use Rattle.joining_claims.proofs.AtTop.{stands_at_top}
 use Rattle.joining_claims.proofs.Demand.{end_refused, end-runs}
 
@@ -36,12 +36,12 @@ module _ (d : List ℕ) (h : length d ≤ 16777216) (f : refused_in (parse d) �
       let x = fed fresh_stand (tokens d) in
       let o = stands_at_top d h g in
       let w = x.next.awaited in
-      let n : x.next ≡ stands_at_top w o.sort = λ i. record { awaited = w; sections = o.sections i } in
-      let a : parse d ≡ x.says ++ (feed (stands_at_top w o.sort) came.End).says =
+      let n : x.next ≡ at_top w o.sort = λ i. record { awaited = w; sections = o.sections i } in
+      let a : parse d ≡ x.says ++ (feed (at_top w o.sort) came.End).says =
       ended ∙ ap (λ (on : Bool). x.says ++ cond on (feed x.next came.End).says []) g ∙ ap (λ (y : Stand). x.says ++ (feed y came.End).says) n in
       let u : refused_in x.says ≡ false = fed-stops fresh_stand (tokens d) ∙ ap not g in
-      let r : refused_in (x.says ++ (feed (stands_at_top w o.sort) came.End).says) ≡ hinted w =
-      refused-append x.says (feed (stands_at_top w o.sort) came.End).says ∙ rw (u, end_refused w o.sort) in
+      let r : refused_in (x.says ++ (feed (at_top w o.sort) came.End).says) ≡ hinted w =
+      refused-append x.says (feed (at_top w o.sort) came.End).says ∙ rw (u, end_refused w o.sort) in
       let e : hinted w ≡ false = sym r ∙ sym (ap refused_in a) ∙ f in
       subst (λ (l : List Answer). OfSort (top_sort l) (top_entries 0 0 l)) (sym a) (top-sorts (runs_append o.runs (end-runs w o.sort e)))
 

@@ -19,7 +19,7 @@ use Rattle.tokenizer.specs.Step.{
   indent_of,
   indents_after,
   depth_after,
-  held_after-fit,
+  held_after,
   plan_with,
   after_plan,
   step_with,
@@ -58,7 +58,7 @@ module _ (n : ℕ) where
   open-less is zero e = e
   open-less is (suc k) e = rw sub-one (and_right (fit_part n (get_or is k no_part)) _ e)
 
-  held_after-fit : (c : Change) (i : Part) → fit_part n i ≡ true → fit_held n (held_after-fit c i) ≡ true
+  held_after-fit : (c : Change) (i : Part) → fit_part n i ≡ true → fit_held n (held_after c i) ≡ true
   held_after-fit Keep i e = refl
   held_after-fit Open i e = refl
   held_after-fit Close i e = refl

@@ -15,7 +15,7 @@ use Rattle.tokenizer.specs.Step.{
   size_of,
   inner_of,
   indents_after,
-  held_after-sound,
+  held_after,
   answer_of,
   plan_with,
   after_plan,
@@ -135,7 +135,7 @@ indent-sound d s o = at s.held o.held
     at Nothing x = indentation-at d s.place o.place
     at (At p) x = x
 
-held_after-sound : (d : List ℕ) (c : Change) (i : Part) → Indentation d i → HeldSound d (held_after-sound c i)
+held_after-sound : (d : List ℕ) (c : Change) (i : Part) → Indentation d i → HeldSound d (held_after c i)
 held_after-sound d Keep i x = tt
 held_after-sound d Open i x = tt
 held_after-sound d Close i x = tt

@@ -1,25 +1,10 @@
 -- 12, then 15, then the plan, whose bounds are those of a document within the limit.
 use Rattle.std.proofs.Common.{rules}
 use mathlib.Core.Path.{◌≡◌, sym, ◌∙◌}
-use mathlib.Core.Bool.{true}
-use borrow.Author.Tests.{not-false}
-use lib.ListN.{length}
 use Rattle.text.proofs.Front.{from}
-use Rattle.tokenizer.specs.Front.{near, advance_with, advance_rule}
-use Rattle.tokenizer.proofs.Advancing.{Nearness, nearness, indent-near, room-near, over, far, advances}
+use Rattle.tokenizer.specs.Front.{advance_with, advance_rule}
+use Rattle.tokenizer.proofs.Advancing.{nearness, indent-near, room-near, over, far, advances}
 use Rattle.tokenizer.proofs.front.advance.Goals as goal
-
-is-close : (c : tie.Else2) → near (length c.before.before.before.before.args.doc.now) c.before.before.before.before.args.f c.before.before.before.before.args.inner ≡ true
-is-close c = sym c.before.is-near.ensures ∙ not-false _ c.if2.false
-
-facts : (c : tie.Else2) → Nearness (length c.before.before.before.before.args.doc.now) c.before.before.before.before.args.f c.before.before.before.before.args.inner
-facts c = nearness _ _ _ (is-close c)
-
-made : (c : tie.After-carried-out) → let m = c.before in let a = m.before.before.before.before.before.before.before.before.before.args in
-    let i = m.before.before.indent-at.result in
-    c.carried-out.result ≡ advance_with a.doc.now a.f a.inner i.part i.size
-unfolding advance_with
-made c = rw (c.carried-out.ensures, c.before.planned.ensures)
 
 pub returns-then-doc-gt-MAX_DOCUMENT : goal.returns-then-doc-gt-MAX_DOCUMENT
 returns-then-doc-gt-MAX_DOCUMENT c = c.stays.ensures ∙ sym (over _ _ _ c.if-doc-gt-MAX_DOCUMENT.true)
@@ -29,21 +14,43 @@ returns-then-not-is_near c =
     c.stays-then-not-is_near.ensures ∙ sym (far _ _ _ c.if-doc-gt-MAX_DOCUMENT.false (sym c.is_near.ensures ∙ c.if-not-is_near.true))
 
 pub slice_bounds-indent_at-count : goal.slice_bounds-indent_at-count
-slice_bounds-indent_at-count c = (facts c{-BARE Else2-}).place
+slice_bounds-indent_at-count c = (nearness _ _ _ (sym c.is_near.ensures ∙ c.if-not-is_near.false)).place
 
 pub slice_bounds-indent_at-start : goal.slice_bounds-indent_at-start
-slice_bounds-indent_at-start c = let h = (facts c{-BARE Else2-}).place in search rules
+slice_bounds-indent_at-start c =
+    let h = (nearness _ _ _ (sym c.is_near.ensures ∙ c.if-not-is_near.false)).place in search rules
 
 pub planned-p-requires : goal.planned-p-requires
 planned-p-requires c =
-    let f = facts c{-BARE Else2-} in
-    let i = rw from at c.indent_at-i.ensures.part_value in record { place_in_bounds = f.place; inner_value = f.innermost; indent_value = rw i (indent-near c.args.doc.now c.args.f f.place f.held) }
+    let f = nearness _ _ _ (sym c.is_near.ensures ∙ c.if-not-is_near.false) in
+    let i = rw from at c.indent_at-i.ensures.part_value in
+    record {
+      place_in_bounds = f.place;
+      inner_value = f.innermost;
+      indent_value = rw i (indent-near c.args.doc.now c.args.f f.place f.held);
+    }
 
 pub carried_out-requires : goal.carried_out-requires
-carried_out-requires c = let both = room-near _ _ _ _ _ _ _ c.if-doc-gt-MAX_DOCUMENT.false (facts c{-BARE Else2-}) c.planned-p.ensures in record { depth_le_max_open = both.0; depth_bound = both.1; pass_bound = both.2; lines_bound = both.3; says_bound = both.4; indent_bound = both.5 }
+carried_out-requires c =
+    let f = nearness _ _ _ (sym c.is_near.ensures ∙ c.if-not-is_near.false) in
+    let room = room-near _ _ _ _ _ _ _ c.if-doc-gt-MAX_DOCUMENT.false f c.planned-p.ensures in
+    record {
+      depth_le_max_open = room.0;
+      depth_bound = room.1.0;
+      pass_bound = room.1.1.0;
+      lines_bound = room.1.1.1.0;
+      says_bound = room.1.1.1.1.0;
+      indent_bound = room.1.1.1.1.1;
+    }
 
 pub returns : goal.returns
-unfolding advance_rule
+unfolding advance_rule advance_with
 returns c =
-    let i = rw from at c.indent_at-i.ensures in
-    made c ∙ (λ j. advance_with c.args.doc.now c.args.f c.args.inner (i.0 j) (i.1 j)) ∙ sym (advances _ _ _ c.if-doc-gt-MAX_DOCUMENT.false (is-close c{-BARE Else2-}))
+    let near = sym c.is_near.ensures ∙ c.if-not-is_near.false in
+    let part = rw from at c.indent_at-i.ensures.part_value in
+    let size = rw from at c.indent_at-i.ensures.size_value in
+    let made : c.carried_out.result ≡ advance_with c.args.doc.now c.args.f c.args.inner c.indent_at-i.result.part c.indent_at-i.result.size =
+        rw (c.carried_out.ensures, c.planned-p.ensures) in
+    made
+    ∙ (λ j. advance_with c.args.doc.now c.args.f c.args.inner (part j) (size j))
+    ∙ sym (advances _ _ _ c.if-doc-gt-MAX_DOCUMENT.false near)

@@ -6,16 +6,16 @@ use Rattle.tokenizer.specs.Step.{reach}
 use Rattle.tokenizer.proofs.front.numbered.Goals as goal
 
 pub say_text-requires : goal.say_text-requires
-say_text-requires c = let both = omega (arith, ap reach c.in-Comment.is) in record { start_bound = both.0; end_bound = both.1 }
+say_text-requires c = record { start_bound = omega (arith, ap reach c.in-Comment.is); end_bound = omega (arith, ap reach c.in-Comment.is) }
 
 pub say_text-requires-in-MapKey : goal.say_text-requires-in-MapKey
-say_text-requires-in-MapKey c = let both = omega (arith, ap reach c.in-MapKey.is) in record { start_bound = both.0; end_bound = both.1 }
+say_text-requires-in-MapKey c = record { start_bound = omega (arith, ap reach c.in-MapKey.is); end_bound = omega (arith, ap reach c.in-MapKey.is) }
 
 pub say_text-requires-in-Value : goal.say_text-requires-in-Value
-say_text-requires-in-Value c = let both = omega (arith, ap reach c.in-Value.is) in record { start_bound = both.0; end_bound = both.1 }
+say_text-requires-in-Value c = record { start_bound = omega (arith, ap reach c.in-Value.is); end_bound = omega (arith, ap reach c.in-Value.is) }
 
 pub say_text-requires-in-MultilineHint : goal.say_text-requires-in-MultilineHint
-say_text-requires-in-MultilineHint c = let both = omega (arith, ap reach c.in-MultilineHint.is) in record { start_bound = both.0; end_bound = both.1 }
+say_text-requires-in-MultilineHint c = record { start_bound = omega (arith, ap reach c.in-MultilineHint.is); end_bound = omega (arith, ap reach c.in-MultilineHint.is) }
 
 pub overflow_add-result : goal.overflow_add-result
 overflow_add-result c = omega (arith, ap reach c.in-MultilineValue.is)

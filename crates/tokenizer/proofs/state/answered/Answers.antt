@@ -5,19 +5,19 @@ use native.Mathlib.Omega.{arith}
 use Rattle.tokenizer.proofs.state.answered.Goals as goal
 
 pub shifted-requires : goal.shifted-requires
-shifted-requires c = let both = omega (arith, ap reach c.in-Comment.is) in record { start_bound = both.0; end_bound = both.1 }
+shifted-requires c = record { start_bound = omega (arith, ap reach c.in-Comment.is); end_bound = omega (arith, ap reach c.in-Comment.is) }
 
 pub shifted-requires-in-MapKey : goal.shifted-requires-in-MapKey
-shifted-requires-in-MapKey c = let both = omega (arith, ap reach c.in-MapKey.is) in record { start_bound = both.0; end_bound = both.1 }
+shifted-requires-in-MapKey c = record { start_bound = omega (arith, ap reach c.in-MapKey.is); end_bound = omega (arith, ap reach c.in-MapKey.is) }
 
 pub shifted-requires-in-Value : goal.shifted-requires-in-Value
-shifted-requires-in-Value c = let both = omega (arith, ap reach c.in-Value.is) in record { start_bound = both.0; end_bound = both.1 }
+shifted-requires-in-Value c = record { start_bound = omega (arith, ap reach c.in-Value.is); end_bound = omega (arith, ap reach c.in-Value.is) }
 
 pub shifted-requires-in-MultilineHint : goal.shifted-requires-in-MultilineHint
-shifted-requires-in-MultilineHint c = let both = omega (arith, ap reach c.in-MultilineHint.is) in record { start_bound = both.0; end_bound = both.1 }
+shifted-requires-in-MultilineHint c = record { start_bound = omega (arith, ap reach c.in-MultilineHint.is); end_bound = omega (arith, ap reach c.in-MultilineHint.is) }
 
 pub shifted-requires-in-MultilineValue : goal.shifted-requires-in-MultilineValue
-shifted-requires-in-MultilineValue c = let both = omega (arith, ap reach c.in-MultilineValue.is) in record { start_bound = both.0; end_bound = both.1 }
+shifted-requires-in-MultilineValue c = record { start_bound = omega (arith, ap reach c.in-MultilineValue.is); end_bound = omega (arith, ap reach c.in-MultilineValue.is) }
 
 pub returns-in-Newline : goal.returns-in-Newline
 returns-in-Newline c = rw c.in-Newline.is

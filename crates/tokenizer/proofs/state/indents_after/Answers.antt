@@ -1,21 +1,18 @@
 -- One slot is set where a section opens, for which there is room by the precondition.
 use Prim.Native.Nat.{ℕ}
 use mathlib.Core.Path.{◌≡◌, refl, ap}
-use mathlib.Core.List.{List, [], ◌∷◌}
+use mathlib.Core.List.{List}
 use native.Mathlib.Omega.{arith}
-use types.Run.{OneOf, miss}
-use denote.Enum.Declared.{tag_of}
 use Rattle.text.specs.declared.bytes.Part.{Part}
 use Rattle.tokenizer.specs.Step.{depth_after, indents_after}
 use Rattle.tokenizer_rules.specs.declared.plan.Change.{Change}
 use Rattle.tokenizer_rules.specs.declared.plan.Change.TheVariants.{Keep, Open, Close, Hold}
-use Rattle.tokenizer_rules.specs.contracts.plan.Change.{the_type}
 use Rattle.tokenizer.proofs.state.indents_after.Goals as goal
 
--- the changes that open nothing, by their tags
-not-open : (c : Change) (i : Part) (is : List Part) (k : ℕ) → OneOf (0 ∷ 2 ∷ 3 ∷ []) (tag_of the_type c) → is ≡ indents_after c i is k
+-- the changes that open nothing
+not-open : (c : Change) (i : Part) (is : List Part) (k : ℕ) → (c ≡ Open → ⊥) → is ≡ indents_after c i is k
 not-open Keep i is k h = refl
-not-open Open i is k h = absurd (miss (0 ∷ 2 ∷ 3 ∷ []) 1 tt h)
+not-open Open i is k h = absurd (h refl)
 not-open Close i is k h = refl
 not-open Hold i is k h = refl
 
@@ -29,4 +26,4 @@ pub returns-in-Open : goal.returns-in-Open
 returns-in-Open c = rw c.in-Open.is
 
 pub returns-in_default : goal.returns-in_default
-returns-in_default c = not-open c.args.change c.args.indent c.args.indents c.args.depth c.in_default.keys2
+returns-in_default c = not-open c.args.change c.args.indent c.args.indents c.args.depth c.in_default.not-Open

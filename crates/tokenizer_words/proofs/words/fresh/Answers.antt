@@ -2,4 +2,4 @@
 use Rattle.tokenizer_words.proofs.words.fresh.Goals as goal
 
 pub returns : goal.returns
-returns c = let both = rw c.new.ensures at c.store.ensures in record { value = both.0; state_after = both.1 }
+returns c = record { value = rw c.new.ensures at c.store.ensures; state_after = rw c.new.ensures at c.store.ensures }

@@ -8,11 +8,11 @@ use Rattle.tokenizer_words.proofs.Restoring.{restored}
 use Rattle.tokenizer_words.proofs.words.restore.Goals as goal
 
 pub returns-then-not-is_fit : goal.returns-then-not-is_fit
-returns-then-not-is_fit c = let both = rw (sym c.is_fit.ensures ∙ c.if-not-is_fit.true) (refl, refl) in record { value = both.0; dst_after = both.1 }
+returns-then-not-is_fit c = record { value = rw (sym c.is_fit.ensures ∙ c.if-not-is_fit.true) (refl, refl); dst_after = rw (sym c.is_fit.ensures ∙ c.if-not-is_fit.true) (refl, refl) }
 
 pub returns-then-dst-lt137 : goal.returns-then-dst-lt137
 unfolding stored_in
-returns-then-dst-lt137 c = let both = rw (sym c.is_fit.ensures ∙ c.if-not-is_fit.false, lt-leb _ _ c.if-dst-lt137.true) (refl, refl) in record { value = both.0; dst_after = both.1 }
+returns-then-dst-lt137 c = record { value = rw (sym c.is_fit.ensures ∙ c.if-not-is_fit.false, lt-leb _ _ c.if-dst-lt137.true) (refl, refl); dst_after = rw (sym c.is_fit.ensures ∙ c.if-not-is_fit.false, lt-leb _ _ c.if-dst-lt137.true) (refl, refl) }
 
 pub copy_state-requires : goal.copy_state-requires
 copy_state-requires c =
@@ -20,4 +20,4 @@ copy_state-requires c =
 
 pub returns : goal.returns
 returns c =
-    let e = sym c.is_fit.ensures ∙ c.if-not-is_fit.false in let both = rw e (refl, c.copy_state.ensures ∙ restored _ _ (and_left (readable _) _ e) c.if-dst-lt137.false ∙ sym (stored-137 _ _ c.if-dst-lt137.false)) in record { value = both.0; dst_after = both.1 }
+    let e = sym c.is_fit.ensures ∙ c.if-not-is_fit.false in record { value = rw e (refl, c.copy_state.ensures ∙ restored _ _ (and_left (readable _) _ e) c.if-dst-lt137.false ∙ sym (stored-137 _ _ c.if-dst-lt137.false)); dst_after = rw e (refl, c.copy_state.ensures ∙ restored _ _ (and_left (readable _) _ e) c.if-dst-lt137.false ∙ sym (stored-137 _ _ c.if-dst-lt137.false)) }

@@ -30,8 +30,8 @@ loop-i-preserved c =
 
 pub returns : goal.returns
 returns c =
-    let positive : 0 < c.args.t1.line = omega arith in
-    let low : c.args.t1.line ≤ c.args.t1.place + 1 = omega arith in
-    let all : c.loop-i.i ≡ c.args.t1.depth = omega arith in
-    c.loop-i.invariant.1 ∙ ap (fit_open c.args.n c.args.t1.indents) all
-    ∙ sym (open-decides c.args.n c.args.t1 c.if-n-place.false positive low (sym c.held_fits.ensures ∙ c.if-not-held_fits.false) c.if-depth-gt-MAX_OPEN.false)
+    let positive : 0 < c.args.self.line = omega arith in
+    let low : c.args.self.line ≤ c.args.self.place + 1 = omega arith in
+    let all : c.loop-i.i ≡ c.args.self.depth = omega arith in
+    c.loop-i.invariant.1 ∙ ap (fit_open c.args.n c.args.self.indents) all
+    ∙ sym (open-decides c.args.n c.args.self c.if-n-place.false positive low (sym c.held_fits.ensures ∙ c.if-not-held_fits.false) c.if-depth-gt-MAX_OPEN.false)
