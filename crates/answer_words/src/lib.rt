@@ -1,4 +1,7 @@
 // Unescaping over lent words, for callers in C and Rust.
+
+#![tactic(auto)]
+
 mod given;
 mod texts;
 

@@ -1,4 +1,7 @@
 // The look-up over lent words, for callers in C and Rust.
+
+#![tactic(auto)]
+
 mod found;
 
 pub use found::look_up;

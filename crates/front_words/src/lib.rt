@@ -1,4 +1,7 @@
 // The tokenizer's part of a state in words: read, and written after a step.
+
+#![tactic(auto)]
+
 mod front;
 
 pub use front::{commit, front_in, inner_in};

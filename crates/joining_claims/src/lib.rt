@@ -1,1 +1,3 @@
 // Theorems about layouts joined at a top-level line: see specs/.
+
+#![tactic(auto)]

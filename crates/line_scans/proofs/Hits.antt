@@ -7,7 +7,7 @@ use native.Mathlib.Nat.{add-zero, zero-add, suc-add, mul-one}
 use native.Mathlib.Omega.{arith}
 use lib.Arith.{digits_mod}
 use lib.Dec.{eqb, eqb-zero-suc, eqb-suc-zero, eqb-suc-suc}
-use lib.Bits.{shifted_half, shifted_even, bit_and, bit_or, bit_xor, and_block, or_block, xor_block, and_lt, and_le_r, or_lt, xor_lt}
+use lib.Bits.{shifted_half, shifted_even, bit_and, bit_xor, and_block, or_block, xor_block, and_lt, and_le_r, or_lt, xor_lt}
 use lib.Count.{count_trailing_zeros}
 use borrow.Author.Tests.{eqb-true, ne_eqb}
 use Rattle.text_scans.specs.Eights.{passing}

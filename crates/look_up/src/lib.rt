@@ -1,4 +1,7 @@
 // The look-up of a top-level entry by its key.
+
+#![tactic(auto)]
+
 mod search;
 
 pub use search::{Found, Hit, Search, Turn, entry, look_up};

@@ -1,1 +1,3 @@
 // Theorems about the parser's lists: see specs/Claims.
+
+#![tactic(auto)]

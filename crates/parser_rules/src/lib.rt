@@ -1,4 +1,7 @@
 // The parser's rules of document 01: what becomes of one answer of the tokenizer.
+
+#![tactic(auto)]
+
 mod judging;
 mod ruling;
 

@@ -1,4 +1,7 @@
 // One step of a state in words, in place, the tokenizer's or the parser's.
+
+#![tactic(auto)]
+
 mod outcome;
 mod step;
 

@@ -1,4 +1,7 @@
 // The bytes of a layout: blanks, line breaks, trimming.
+
+#![tactic(auto)]
+
 mod bytes;
 mod trimming;
 

@@ -1,1 +1,3 @@
 // Theorems about the tokenizer's lists: see specs/Claims.
+
+#![tactic(auto)]

@@ -1,4 +1,7 @@
 // The scans of document 01's token readers.
+
+#![tactic(auto)]
+
 mod readers;
 
 pub use readers::{

@@ -1,1 +1,3 @@
 // Theorems about unescaping: see specs/Claims and specs/ByText.
+
+#![tactic(auto)]

@@ -1,4 +1,7 @@
 // A token's text in the document and how it is read, and whether it may be read.
+
+#![tactic(auto)]
+
 mod source;
 
 pub use source::{Checked, Source, source_in, source_of};

@@ -1,4 +1,7 @@
 // UTF-8 and scalar values, as the Unicode Standard defines them.
+
+#![tactic(auto)]
+
 mod scalar;
 mod utf8;
 

@@ -1,1 +1,3 @@
 // Theorems about the exported batches: see specs/.
+
+#![tactic(auto)]

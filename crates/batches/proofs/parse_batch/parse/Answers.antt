@@ -50,17 +50,17 @@ returns-then-not-put_parser c = let both = unread c.args.doc.now c.args.state.no
 
 pub returns-then-starts_unfit : goal.returns-then-starts_unfit
 returns-then-starts_unfit c =
-    let a = (begin c{-BARE After-put_parser-}).args in
-    let u = rw (kept c{-BARE Else2-}) at c.starts_unfit.ensures in let both = starts-unfit a.doc.now a.state.now a.rows.now (replicate 278 0) (replicate 278 0) (small c{-BARE Else2-}) (omega arith) (read c{-BARE Else2-}) (fits c{-BARE Else2-}) refl (and_right (ltb (length a.rows.now) 7) _ (sym u ∙ c.if-starts_unfit.true)) in record { value = both.0; state_after = both.1; rows_after = both.2 }
+    let a = (begin c {-BARE After-put_parser-}).args in
+    let u = rw (kept c {-BARE Else2-}) at c.starts_unfit.ensures in let both = starts-unfit a.doc.now a.state.now a.rows.now (replicate 278 0) (replicate 278 0) (small c {-BARE Else2-}) (omega arith) (read c {-BARE Else2-}) (fits c {-BARE Else2-}) refl (and_right (ltb (length a.rows.now) 7) _ (sym u ∙ c.if-starts_unfit.true)) in record { value = both.0; state_after = both.1; rows_after = both.2 }
 
 pub returns-then-t : goal.returns-then-t
 returns-then-t c =
-    let a = (begin c{-BARE After-put_parser-}).args in
-    let r = rw (kept c{-BARE Else2-}) at c.take_rows-t.ensures in let both = none-starts a.doc.now a.state.now a.rows.now (replicate 278 0) (replicate 278 0) (small c{-BARE Else2-}) (omega arith) (read c{-BARE Else2-}) (fits c{-BARE Else2-}) (rw (r.0, r.1.0) at c.if-t.true) r.1.1.1 in record { value = both.0; state_after = both.1; rows_after = both.2 }
+    let a = (begin c {-BARE After-put_parser-}).args in
+    let r = rw (kept c {-BARE Else2-}) at c.take_rows-t.ensures in let both = none-starts a.doc.now a.state.now a.rows.now (replicate 278 0) (replicate 278 0) (small c {-BARE Else2-}) (omega arith) (read c {-BARE Else2-}) (fits c {-BARE Else2-}) (rw (r.0, r.1.0) at c.if-t.true) r.1.1.1 in record { value = both.0; state_after = both.1; rows_after = both.2 }
 
 pub returns : goal.returns
 returns c =
-    let a = (begin c{-BARE After-put_parser-}).args in
-    let u = rw (kept c{-BARE Else2-}) at c.starts_unfit.ensures in
-    let r = rw (kept c{-BARE Else2-}) at c.take_rows-t.ensures in let both = parses-done a.doc.now a.state.now a.rows.now _ _ (small c{-BARE Else2-}) (omega arith) (read c{-BARE Else2-}) (fits c{-BARE Else2-}) (sym u ∙ c.if-starts_unfit.false)
+    let a = (begin c {-BARE After-put_parser-}).args in
+    let u = rw (kept c {-BARE Else2-}) at c.starts_unfit.ensures in
+    let r = rw (kept c {-BARE Else2-}) at c.take_rows-t.ensures in let both = parses-done a.doc.now a.state.now a.rows.now _ _ (small c {-BARE Else2-}) (omega arith) (read c {-BARE Else2-}) (fits c {-BARE Else2-}) (sym u ∙ c.if-starts_unfit.false)
     (rw (r.0, r.1.0) at c.if-t.false) r.0 r.1.1.0 r.1.1.1 c.put_back.ensures in record { value = both.0; state_after = both.1; rows_after = both.2 }

@@ -31,8 +31,7 @@ returns-then-stops c =
 pub loop-n-preserved : goal.loop-n-preserved
 loop-n-preserved c =
     let g = step_in c.args.layer c.args.doc.now c.loop-n.w in
-    let e : stops_at g.said.number ≡ false = ap stops_at (sym c.step_in-last.ensures.0) ∙ sym c.stops.ensures ∙ c.if-stops.false in
-    (
+    let e : stops_at g.said.number ≡ false = ap stops_at (sym c.step_in-last.ensures.0) ∙ sym c.stops.ensures ∙ c.if-stops.false in (
       c.step_in-last.auto.1.1.1.1.0 ∙ c.loop-n.invariant.0,
       next _ _ _ _ c.loop-n.invariant.1 c.loop-n-test.true (omega (arith, c.loop-n-test.true, c.loop-n.invariant.0)) e (c.step_in-last.ensures.1.1 ∙ row_put g.said _ c.loop-n.rows e) c.step_in-last.ensures.1.0,
     )

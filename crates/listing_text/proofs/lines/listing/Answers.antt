@@ -55,7 +55,7 @@ onward c = not-zero _ (λ e. c.if2.false (number c.before ∙ e))
 pub returns-then-doc-gt-MAX_LISTED : goal.returns-then-doc-gt-MAX_LISTED
 unfolding answer_text
 returns-then-doc-gt-MAX_LISTED c =
-    let h = begun c{-BARE After-put_text-} in let both = over _ c.if-doc-gt-MAX_LISTED.true (both h (wrote (answer_text (Refused 12 0)) _ _ c.put_row.ensures.value c.put_row.ensures.out_after)) in record { value = both.0; out_after = both.1 }
+    let h = begun c {-BARE After-put_text-} in let both = over _ c.if-doc-gt-MAX_LISTED.true (both h (wrote (answer_text (Refused 12 0)) _ _ c.put_row.ensures.value c.put_row.ensures.out_after)) in record { value = both.0; out_after = both.1 }
 
 pub loop-row-init : goal.loop-row-init
 loop-row-init c =
@@ -71,18 +71,18 @@ shape_of-out-then-row-eq0 c =
 
 pub returns-then-row-eq0 : goal.returns-then-row-eq0
 returns-then-row-eq0 c =
-    let h = begun c{-BARE After-put_text-} in
-    let e = end-zero _ (sym (number c{-BARE After-next-}) ∙ c.if-row-eq0.true) in let both = listed _ c.if-doc-gt-MAX_LISTED.false (both h (ended _ _ _ c.loop-row.invariant.1 e)) in record { value = both.0; out_after = both.1 }
+    let h = begun c {-BARE After-put_text-} in
+    let e = end-zero _ (sym (number c {-BARE After-next-}) ∙ c.if-row-eq0.true) in let both = listed _ c.if-doc-gt-MAX_LISTED.false (both h (ended _ _ _ c.loop-row.invariant.1 e)) in record { value = both.0; out_after = both.1 }
 
 pub put_answer-at-requires : goal.put_answer-at-requires
 put_answer-at-requires c =
-    row_fits _ _ _ c.loop-row.invariant.1 (onward c{-BARE Else2-})
+    row_fits _ _ _ c.loop-row.invariant.1 (onward c {-BARE Else2-})
 
 pub loop-row-smaller : goal.loop-row-smaller
 loop-row-smaller c =
-    fewer _ _ _ c.loop-row.invariant.1 (onward c{-BARE Else2-}) (stepped c{-BARE After-next-})
+    fewer _ _ _ c.loop-row.invariant.1 (onward c {-BARE Else2-}) (stepped c {-BARE After-next-})
 
 pub loop-row-preserved : goal.loop-row-preserved
 loop-row-preserved c =
-    let w = rw (rowed c{-BARE After-next-}, line-is _ (onward c{-BARE Else2-})) at c.put_answer-at.ensures in
-    (rw c.next.ensures.0 (stepping c{-BARE After-next-}).reading, next _ _ _ c.loop-row.invariant.1 (onward c{-BARE Else2-}) (stepped c{-BARE After-next-}) w.1.0 (wrote _ _ _ w.0 w.1.1))
+    let w = rw (rowed c, {-BARE After-next-} line-is _ (onward c {-BARE Else2-})) at c.put_answer-at.ensures in
+    (rw c.next.ensures.0 (stepping c {-BARE After-next-}).reading, next _ _ _ c.loop-row.invariant.1 (onward c {-BARE Else2-}) (stepped c {-BARE After-next-}) w.1.0 (wrote _ _ _ w.0 w.1.1))

@@ -13,7 +13,7 @@ near-end : (c : tie.After-put-number-arg3) → c.before.before.before.put-text3.
 near-end c = omega arith
 
 pub put_text-requires : goal.put_text-requires
-put_text-requires c = omega (arith, near-end c{-BARE After-put_number3-})
+put_text-requires c = omega (arith, near-end c {-BARE After-put_number3-})
 
 pub returns : goal.returns
 unfolding row_text

@@ -12,8 +12,8 @@ few c =
     at-most-20 _ _ fits.n.fits c.decimal.ensures.1.0
 
 pub put_text-requires : goal.put_text-requires
-put_text-requires c = omega (arith, few c{-BARE After-decimal-})
+put_text-requires c = omega (arith, few c {-BARE After-decimal-})
 
 pub returns : goal.returns
 returns c =
-    let e = c.decimal-k.ensures.1.1 ∙ fewest _ _ c.decimal-k.ensures.1.0 in record { value = rw e at c.put_text.ensures.value; upper_bound = omega (arith, few c{-BARE After-decimal-}); out_after = rw e at c.put_text.ensures.out_after }
+    let e = c.decimal-k.ensures.1.1 ∙ fewest _ _ c.decimal-k.ensures.1.0 in record { value = rw e at c.put_text.ensures.value; upper_bound = omega (arith, few c {-BARE After-decimal-}); out_after = rw e at c.put_text.ensures.out_after }

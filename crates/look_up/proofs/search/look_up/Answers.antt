@@ -46,12 +46,12 @@ on_row-requires c =
 
 pub returns-in-Ends : goal.returns-in-Ends
 returns-in-Ends c =
-    finds _ _ _ _ c.loop-found.invariant.1 (rowed c{-BARE After-next-}) c.on_row.ensures c.in-Ends.is
+    finds _ _ _ _ c.loop-found.invariant.1 (rowed c {-BARE After-next-}) c.on_row.ensures c.in-Ends.is
 
 pub loop-found-smaller : goal.loop-found-smaller
 loop-found-smaller c =
-    falls _ _ _ _ c.loop-found.invariant.1 (rowed c{-BARE After-next-}) c.on_row.ensures (stepped c{-BARE After-next-}) c.in-Goes.is
+    falls _ _ _ _ c.loop-found.invariant.1 (rowed c {-BARE After-next-}) c.on_row.ensures (stepped c {-BARE After-next-}) c.in-Goes.is
 
 pub loop-found-preserved : goal.loop-found-preserved
 loop-found-preserved c =
-    (rw c.next.ensures.0 (stepping c{-BARE After-next-}).reading, goes_on _ _ _ _ c.loop-found.invariant.1 (rowed c{-BARE After-next-}) c.on_row.ensures (stepped c{-BARE After-next-}) c.in-Goes.is)
+    (rw c.next.ensures.0 (stepping c {-BARE After-next-}).reading, goes_on _ _ _ _ c.loop-found.invariant.1 (rowed c {-BARE After-next-}) c.on_row.ensures (stepped c {-BARE After-next-}) c.in-Goes.is)

@@ -1,6 +1,5 @@
 use Rattle.text_scans.proofs.Passing.{start, within, go, stop, end}
 use mathlib.Core.Path.{sym, ◌∙◌}
-use Prim.Native.Nat.{◌-◌}
 use Rattle.text_scans.proofs.ascii.ascii_eights.Goals as goal
 
 pub loop-i-init : goal.loop-i-init

@@ -59,55 +59,55 @@ slice_bounds-starts_with-start c = omega (arith, c.loop-skip.invariant.room)
 
 pub overflow_add-at : goal.overflow_add-at
 overflow_add-at c =
-    let l = run_lies c{-BARE After-next_piece-} c.in-Run.is in
+    let l = run_lies c {-BARE After-next_piece-} c.in-Run.is in
     omega arith
 
 pub overflow_add-at-in-Run : goal.overflow_add-at-in-Run
 overflow_add-at-in-Run c =
-    let l = run_lies c{-BARE After-next_piece-} c.in-Run.is in
+    let l = run_lies c {-BARE After-next_piece-} c.in-Run.is in
     omega arith
 
 pub slice_bounds-starts_with-count-in-Run : goal.slice_bounds-starts_with-count-in-Run
 slice_bounds-starts_with-count-in-Run c =
-    let l = run_lies c{-BARE After-next_piece-} c.in-Run.is in
+    let l = run_lies c {-BARE After-next_piece-} c.in-Run.is in
     omega arith
 
 pub slice_bounds-starts_with-start-in-Run : goal.slice_bounds-starts_with-start-in-Run
 slice_bounds-starts_with-start-in-Run c =
-    let l = run_lies c{-BARE After-next_piece-} c.in-Run.is in
+    let l = run_lies c {-BARE After-next_piece-} c.in-Run.is in
     omega arith
 
 pub slice_bounds-starts_with-end-in-Run : goal.slice_bounds-starts_with-end-in-Run
 slice_bounds-starts_with-end-in-Run c =
-    let l = run_lies c{-BARE After-next_piece-} c.in-Run.is in
+    let l = run_lies c {-BARE After-next_piece-} c.in-Run.is in
     omega arith
 
 pub returns-then-not-starts_with : goal.returns-then-not-starts_with
 returns-then-not-starts_with c =
     let e = rw (from, run-bytes) at c.starts_with.ensures in
-    run-differs _ _ _ (here c{-BARE After-next_piece-}).loop.invariant (came c{-BARE After-next_piece-}) _ (ends c{-BARE After-next_piece-}) c.in-Run.is e c.if-not-starts_with.true
+    run-differs _ _ _ (here c {-BARE After-next_piece-}).loop.invariant (came c {-BARE After-next_piece-}) _ (ends c {-BARE After-next_piece-}) c.in-Run.is e c.if-not-starts_with.true
 
 pub overflow_sub-len : goal.overflow_sub-len
 overflow_sub-len c =
-    run-skips _ _ _ _ _ (came c{-BARE After-next_piece-}) (here c{-BARE After-next_piece-}).loop.invariant.walked.within c.in-Run.is
+    run-skips _ _ _ _ _ (came c {-BARE After-next_piece-}) (here c {-BARE After-next_piece-}).loop.invariant.walked.within c.in-Run.is
 
 pub overflow_add-len : goal.overflow_add-len
 overflow_add-len c =
-    let m = match-run _ _ _ (here c{-BARE After-next_piece-}).loop.invariant (came c{-BARE After-next_piece-}) c.in-Run.is (rw (from, run-bytes) at c.starts_with.ensures) c.if-not-starts_with.false in
+    let m = match-run _ _ _ (here c {-BARE After-next_piece-}).loop.invariant (came c {-BARE After-next_piece-}) c.in-Run.is (rw (from, run-bytes) at c.starts_with.ensures) c.if-not-starts_with.false in
     omega arith
 
 pub overflow_add-at-in-Run-2 : goal.overflow_add-at-in-Run-2
 overflow_add-at-in-Run-2 c =
-    let m = run-moves _ _ _ _ _ (came c{-BARE After-next_piece-}) (here c{-BARE After-next_piece-}).loop.invariant.walked.within c.in-Run.is in
+    let m = run-moves _ _ _ _ _ (came c {-BARE After-next_piece-}) (here c {-BARE After-next_piece-}).loop.invariant.walked.within c.in-Run.is in
     omega arith
 
 pub loop-skip-smaller-in-Run : goal.loop-skip-smaller-in-Run
 loop-skip-smaller-in-Run c =
-    (run-moves _ _ _ _ _ (came c{-BARE After-next_piece-}) (here c{-BARE After-next_piece-}).loop.invariant.walked.within c.in-Run.is).falls
+    (run-moves _ _ _ _ _ (came c {-BARE After-next_piece-}) (here c {-BARE After-next_piece-}).loop.invariant.walked.within c.in-Run.is).falls
 
 pub loop-skip-preserved-in-Run : goal.loop-skip-preserved-in-Run
 loop-skip-preserved-in-Run c =
-    match-run _ _ _ (here c{-BARE After-next_piece-}).loop.invariant (came c{-BARE After-next_piece-}) c.in-Run.is (rw (from, run-bytes) at c.starts_with.ensures) c.if-not-starts_with.false
+    match-run _ _ _ (here c {-BARE After-next_piece-}).loop.invariant (came c {-BARE After-next_piece-}) c.in-Run.is (rw (from, run-bytes) at c.starts_with.ensures) c.if-not-starts_with.false
 
 pub slice_bounds-starts_with-count-in-Scalar : goal.slice_bounds-starts_with-count-in-Scalar
 slice_bounds-starts_with-count-in-Scalar c = c.loop-skip.invariant.room
@@ -124,34 +124,34 @@ slice_bounds-starts_with-end-in-Scalar-2 c = sym (length-take-le _ _ (rw c.encod
 pub returns-then-not-starts_with-2 : goal.returns-then-not-starts_with-2
 returns-then-not-starts_with-2 c =
     let e = rw (from, c.encode-e.ensures, encoded-bytes) at c.starts_with-in-Scalar.ensures in
-    scalar-differs _ _ _ (here c{-BARE After-next_piece-}).loop.invariant (came c{-BARE After-next_piece-}) _ (ends c{-BARE After-next_piece-}) c.in-Scalar.is e c.if-not-starts_with-2.true
+    scalar-differs _ _ _ (here c {-BARE After-next_piece-}).loop.invariant (came c {-BARE After-next_piece-}) _ (ends c {-BARE After-next_piece-}) c.in-Scalar.is e c.if-not-starts_with-2.true
 
 pub overflow_add-len-in-Scalar : goal.overflow_add-len-in-Scalar
 overflow_add-len-in-Scalar c =
-    let m = match-scalar _ _ _ (here c{-BARE After-next_piece-}).loop.invariant (came c{-BARE After-next_piece-}) c.in-Scalar.is (rw (from, c.encode-e.ensures, encoded-bytes) at c.starts_with-in-Scalar.ensures) c.if-not-starts_with-2.false in
+    let m = match-scalar _ _ _ (here c {-BARE After-next_piece-}).loop.invariant (came c {-BARE After-next_piece-}) c.in-Scalar.is (rw (from, c.encode-e.ensures, encoded-bytes) at c.starts_with-in-Scalar.ensures) c.if-not-starts_with-2.false in
     omega (arith, c, ap (λ (e : Encoded). e.len) c.encode-e.ensures ∙ encoded-len _)
 
 pub overflow_add-at-in-Scalar : goal.overflow_add-at-in-Scalar
 overflow_add-at-in-Scalar c =
-    let m = scalar-moves _ _ _ _ _ (came c{-BARE After-next_piece-}) (here c{-BARE After-next_piece-}).loop.invariant.walked.within c.in-Scalar.is in
+    let m = scalar-moves _ _ _ _ _ (came c {-BARE After-next_piece-}) (here c {-BARE After-next_piece-}).loop.invariant.walked.within c.in-Scalar.is in
     omega arith
 
 pub loop-skip-smaller : goal.loop-skip-smaller
 loop-skip-smaller c =
-    (scalar-moves _ _ _ _ _ (came c{-BARE After-next_piece-}) (here c{-BARE After-next_piece-}).loop.invariant.walked.within c.in-Scalar.is).falls
+    (scalar-moves _ _ _ _ _ (came c {-BARE After-next_piece-}) (here c {-BARE After-next_piece-}).loop.invariant.walked.within c.in-Scalar.is).falls
 
 pub loop-skip-preserved : goal.loop-skip-preserved
 loop-skip-preserved c =
-    rw (ap (λ (e : Encoded). e.len) c.encode-e.ensures ∙ encoded-len _) (match-scalar _ _ _ (here c{-BARE After-next_piece-}).loop.invariant (came c{-BARE After-next_piece-}) c.in-Scalar.is (rw (from, c.encode-e.ensures, encoded-bytes) at c.starts_with-in-Scalar.ensures) c.if-not-starts_with-2.false)
+    rw (ap (λ (e : Encoded). e.len) c.encode-e.ensures ∙ encoded-len _) (match-scalar _ _ _ (here c {-BARE After-next_piece-}).loop.invariant (came c {-BARE After-next_piece-}) c.in-Scalar.is (rw (from, c.encode-e.ensures, encoded-bytes) at c.starts_with-in-Scalar.ensures) c.if-not-starts_with-2.false)
 
 pub returns-in-End : goal.returns-in-End
 returns-in-End c =
-    end-matched _ _ _ (here c{-BARE After-next_piece-}).loop.invariant (came c{-BARE After-next_piece-}) c.in-End.is
+    end-matched _ _ _ (here c {-BARE After-next_piece-}).loop.invariant (came c {-BARE After-next_piece-}) c.in-End.is
 
 pub returns-in-Code : goal.returns-in-Code
 returns-in-Code c =
-    code-matched _ _ _ (here c{-BARE After-next_piece-}).loop.invariant (came c{-BARE After-next_piece-}) c.in-Code.is
+    code-matched _ _ _ (here c {-BARE After-next_piece-}).loop.invariant (came c {-BARE After-next_piece-}) c.in-Code.is
 
 pub returns-in-Refused : goal.returns-in-Refused
 returns-in-Refused c =
-    refused-matched _ _ _ (here c{-BARE After-next_piece-}).loop.invariant (came c{-BARE After-next_piece-}) c.in-Refused.is
+    refused-matched _ _ _ (here c {-BARE After-next_piece-}).loop.invariant (came c {-BARE After-next_piece-}) c.in-Refused.is

@@ -50,7 +50,7 @@ returns c =
     let part = rw from at c.indent_at-i.ensures.part_value in
     let size = rw from at c.indent_at-i.ensures.size_value in
     let made : c.carried_out.result ≡ advance_with c.args.doc.now c.args.f c.args.inner c.indent_at-i.result.part c.indent_at-i.result.size =
-        rw (c.carried_out.ensures, c.planned-p.ensures) in
+    rw (c.carried_out.ensures, c.planned-p.ensures) in
     made
     ∙ (λ j. advance_with c.args.doc.now c.args.f c.args.inner (part j) (size j))
     ∙ sym (advances _ _ _ c.if-doc-gt-MAX_DOCUMENT.false near)

@@ -36,14 +36,13 @@ returns-then-not-escaped c =
     (rw (eq-eqb _ _ c.if-b-eq34.true, c.if-not-escaped.true)))
 
 pub loop-i-preserved : goal.loop-i-preserved
-loop-i-preserved c =
-    (
-      search rules,
-      c.loop-i.invariant.1
-          ∙ more _ _ _ c.loop-i-test.true (sym c.is_newline.ensures ∙ c.if-is_newline.false)
-          (elim c.else-b-eq34.branch [ else-b-eq34-via-then-b-eq34+else-not-escaped w ↦ rw (eq-eqb _ _ w.if-b-eq34.true, w.if-not-escaped.false) | else-b-eq34-via-else-b-eq34 w ↦ rw (ne_eqb _ _ w.if-b-eq34.false) ])
-          (elim c.if-b-eq92.branch [ then-b-eq92 w ↦ w.escaped-is ∙ rw (eq-eqb _ _ w.if-b-eq92.true) | else-b-eq92 w ↦ w.escaped-is ∙ rw (ne_eqb _ _ w.if-b-eq92.false) ]),
-    )
+loop-i-preserved c = (
+  search rules,
+  c.loop-i.invariant.1
+      ∙ more _ _ _ c.loop-i-test.true (sym c.is_newline.ensures ∙ c.if-is_newline.false)
+      (elim c.else-b-eq34.branch [ else-b-eq34-via-then-b-eq34+else-not-escaped w ↦ rw (eq-eqb _ _ w.if-b-eq34.true, w.if-not-escaped.false) | else-b-eq34-via-else-b-eq34 w ↦ rw (ne_eqb _ _ w.if-b-eq34.false) ])
+      (elim c.if-b-eq92.branch [ then-b-eq92 w ↦ w.escaped-is ∙ rw (eq-eqb _ _ w.if-b-eq92.true) | else-b-eq92 w ↦ w.escaped-is ∙ rw (ne_eqb _ _ w.if-b-eq92.false) ]),
+)
 
 pub returns : goal.returns
 returns c = sym (c.loop-i.invariant.1 ∙ end _ _ _ c.loop-i-test.false)

@@ -13,12 +13,12 @@ unfolding stops
 returns-then-b-eq59 c =
     let e = c.is_newline.ensures in
     elim c.if-is_newline.branch [
-      then-is_newline w ↦ w.t-4-is ∙ w.if-is_newline.true ∙ rw (sym e ∙ w.if-is_newline.true)
+      | then-is_newline w ↦ w.t-4-is ∙ w.if-is_newline.true ∙ rw (sym e ∙ w.if-is_newline.true)
       | else-is_newline w ↦
-        w.t-4-is
-            ∙ ⊎_elim (λ h. absurd (clash (sym h ∙ w.if-is_newline.false)))
-            (λ h. rw (sym e ∙ h.0, eq-eqb _ _ h.1))
-            c.if-b-eq59.either
+          w.t-4-is
+          ∙ ⊎_elim (λ h. absurd (clash (sym h ∙ w.if-is_newline.false)))
+          (λ h. rw (sym e ∙ h.0, eq-eqb _ _ h.1))
+          c.if-b-eq59.either
     ]
 
 pub returns-else-b-eq59 : goal.returns-else-b-eq59

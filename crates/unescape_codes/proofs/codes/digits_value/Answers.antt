@@ -22,12 +22,11 @@ overflow_add-n c =
     omega (arith, grows _ _ _ c.loop-i.invariant.1 c.if-d-ge16.false, room (c.loop-i.i + 1) (omega arith))
 
 pub loop-i-preserved : goal.loop-i-preserved
-loop-i-preserved c =
-    (
-      search rules,
-      grows _ _ _ c.loop-i.invariant.1 c.if-d-ge16.false,
-      c.loop-i.invariant.2 ∙ more _ _ _ c.loop-i-test.true (rw c.digit-d.ensures at c.if-d-ge16.false) ∙ rw (← c.digit-d.ensures),
-    )
+loop-i-preserved c = (
+  search rules,
+  grows _ _ _ c.loop-i.invariant.1 c.if-d-ge16.false,
+  c.loop-i.invariant.2 ∙ more _ _ _ c.loop-i-test.true (rw c.digit-d.ensures at c.if-d-ge16.false) ∙ rw (← c.digit-d.ensures),
+)
 
 pub returns : goal.returns
 returns c = sym (c.loop-i.invariant.2 ∙ end _ _ _ c.loop-i-test.false)

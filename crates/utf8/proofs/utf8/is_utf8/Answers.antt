@@ -13,11 +13,10 @@ pub loop-i-init : goal.loop-i-init
 loop-i-init c = ascii _ _ c.ascii_eights-i.ensures
 
 pub loop-i-preserved-then-s-i-lt128 : goal.loop-i-preserved-then-s-i-lt128
-loop-i-preserved-then-s-i-lt128 c =
-    (
-      search rules,
-      c.loop-i.invariant.1 ∙ at-char _ _ _ (at_ascii _ _ c.loop-i-test.true c.if-s-i-lt128.true) c.loop-i-test.true (λ e. absurd (omega (arith, e))),
-    )
+loop-i-preserved-then-s-i-lt128 c = (
+  search rules,
+  c.loop-i.invariant.1 ∙ at-char _ _ _ (at_ascii _ _ c.loop-i-test.true c.if-s-i-lt128.true) c.loop-i-test.true (λ e. absurd (omega (arith, e))),
+)
 
 pub returns-then-n-eq0 : goal.returns-then-n-eq0
 returns-then-n-eq0 c =
@@ -32,11 +31,10 @@ loop-i-smaller c =
     omega (arith, at-le _ _ _ (sym (rw from at c.char_len-n.ensures)) c.loop-i.invariant.0)
 
 pub loop-i-preserved : goal.loop-i-preserved
-loop-i-preserved c =
-    (
-      at-le _ _ _ (sym (rw from at c.char_len-n.ensures)) c.loop-i.invariant.0,
-      c.loop-i.invariant.1 ∙ at-char _ _ _ (sym (rw from at c.char_len-n.ensures)) c.loop-i-test.true c.if-n-eq0.false,
-    )
+loop-i-preserved c = (
+  at-le _ _ _ (sym (rw from at c.char_len-n.ensures)) c.loop-i.invariant.0,
+  c.loop-i.invariant.1 ∙ at-char _ _ _ (sym (rw from at c.char_len-n.ensures)) c.loop-i-test.true c.if-n-eq0.false,
+)
 
 pub returns : goal.returns
 unfolding utf8 owes

@@ -52,7 +52,7 @@ pub planned-p-requires : goal.planned-p-requires
 planned-p-requires c =
     let s = c.args.self in
     let inner =
-        c.innermost-inner.ensures ∙ ap (λ i. cond (eqb s.depth 0) no_part (get_or s.indents i no_part)) c.one_less-last.ensures ∙ inner_last s.indents s.depth in
+    c.innermost-inner.ensures ∙ ap (λ i. cond (eqb s.depth 0) no_part (get_or s.indents i no_part)) c.one_less-last.ensures ∙ inner_last s.indents s.depth in
     let f = fitness _ _ (sym c.fits.ensures ∙ c.if-not-fits.false) in
     let i = rw from at c.indent_at-i.ensures.part_value in
     record { place_in_bounds = f.place; inner_value = rw inner (inner-fit _ _ _ f.opens); indent_value = rw i (indent-fit _ _ f) }
@@ -73,18 +73,18 @@ unfolding step_rule step_with plan_with
 returns c =
     let s = c.args.self in
     let inner =
-        c.innermost-inner.ensures ∙ ap (λ i. cond (eqb s.depth 0) no_part (get_or s.indents i no_part)) c.one_less-last.ensures ∙ inner_last s.indents s.depth in
+    c.innermost-inner.ensures ∙ ap (λ i. cond (eqb s.depth 0) no_part (get_or s.indents i no_part)) c.one_less-last.ensures ∙ inner_last s.indents s.depth in
     let d = c.args.doc.now in
     let i = c.indent_at-i.result in
     let plan : c.planned-p.result ≡ plan_with d s i.part i.size =
-        c.planned-p.ensures ∙ ap (λ p. plan_at s.marks s.depth (bytes_of d p) (bytes_of d i.part) (drop s.place d) i.size) inner in
+    c.planned-p.ensures ∙ ap (λ p. plan_at s.marks s.depth (bytes_of d p) (bytes_of d i.part) (drop s.place d) i.size) inner in
     let made : Path Step (record { answer = c.answered-answer.result; state = c.after-state.result }) (step_with d s i.part i.size) =
-        rw (c.answered-answer.ensures, c.after-state.ensures, plan) in
+    rw (c.answered-answer.ensures, c.after-state.ensures, plan) in
     let part = rw from at c.indent_at-i.ensures.part_value in
     let size = rw from at c.indent_at-i.ensures.size_value in
     let both =
-        promised
-        (made
-        ∙ (λ j. step_with d s (part j) (size j))
-        ∙ sym (ruled _ _ c.if-doc-gt-MAX_DOCUMENT.false (sym c.fits.ensures ∙ c.if-not-fits.false))) in
+    promised
+    (made
+    ∙ (λ j. step_with d s (part j) (size j))
+    ∙ sym (ruled _ _ c.if-doc-gt-MAX_DOCUMENT.false (sym c.fits.ensures ∙ c.if-not-fits.false))) in
     record { answer_value = both.0; state_value = both.1 }
