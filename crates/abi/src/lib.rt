@@ -1,6 +1,5 @@
 // The functions that C and Rust call: a slice is a pointer and a length. include/conl.h and rust/conl declare them;
 // tests/c/run compares the declarations of conl.h with these.
-
 #![tactic(auto)]
 
 ghost use Rattle.std.specs.Prelude.{◌≡◌, leb, length};

@@ -1,5 +1,4 @@
 // Unescaping over lent words, for callers in C and Rust.
-
 #![tactic(auto)]
 
 mod given;

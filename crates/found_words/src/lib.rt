@@ -1,5 +1,4 @@
 // The look-up over lent words, for callers in C and Rust.
-
 #![tactic(auto)]
 
 mod found;

@@ -1,5 +1,4 @@
 // The tokenizer's part of a state in words: read, and written after a step.
-
 #![tactic(auto)]
 
 mod front;

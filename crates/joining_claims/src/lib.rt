@@ -1,3 +1,2 @@
 // Theorems about layouts joined at a top-level line: see specs/.
-
 #![tactic(auto)]

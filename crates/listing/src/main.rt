@@ -1,6 +1,5 @@
 // Lists a document: standard input of up to 65,536 bytes, listed on standard output. What goes wrong is told on
 // standard error.
-
 #![tactic(auto)]
 
 ghost use Rattle.std.specs.Prelude.{◌≡◌, length};

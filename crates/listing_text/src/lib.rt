@@ -1,5 +1,4 @@
 // The listing of a document: the parser's answers as lines of text.
-
 #![tactic(auto)]
 
 mod lines;

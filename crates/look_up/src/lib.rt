@@ -1,5 +1,4 @@
 // The look-up of a top-level entry by its key.
-
 #![tactic(auto)]
 
 mod search;

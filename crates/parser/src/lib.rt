@@ -1,5 +1,4 @@
 // The parser of document 01: a step on a state by value, over the tokenizer's.
-
 #![tactic(auto)]
 
 mod state;

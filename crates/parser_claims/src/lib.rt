@@ -1,3 +1,2 @@
 // Theorems about the parser's lists: see specs/Claims.
-
 #![tactic(auto)]

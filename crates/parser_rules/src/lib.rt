@@ -1,5 +1,4 @@
 // The parser's rules of document 01: what becomes of one answer of the tokenizer.
-
 #![tactic(auto)]
 
 mod judging;

@@ -1,5 +1,4 @@
 // A parser's state in lent words, for callers in C and Rust.
-
 #![tactic(auto)]
 
 mod words;

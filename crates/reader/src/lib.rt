@@ -1,5 +1,4 @@
 // Document 01's two thin forms over the covered steps: a parser's state that the caller lends, and a reader that holds its document.
-
 #![tactic(auto)]
 
 mod parses;

@@ -1,5 +1,4 @@
 // One step of a state in words, in place, the tokenizer's or the parser's.
-
 #![tactic(auto)]
 
 mod outcome;

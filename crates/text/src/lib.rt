@@ -1,5 +1,4 @@
 // The bytes of a layout: blanks, line breaks, trimming.
-
 #![tactic(auto)]
 
 mod bytes;

@@ -1,5 +1,4 @@
 // What a token's text comes to, with no buffer for it.
-
 #![tactic(auto)]
 
 mod same;

@@ -1,3 +1,2 @@
 // Theorems about the tokenizer's lists: see specs/Claims.
-
 #![tactic(auto)]

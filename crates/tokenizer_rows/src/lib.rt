@@ -1,5 +1,4 @@
 // The rows of answers, seven words each, for callers in C and Rust, and a token read back from its row.
-
 #![tactic(auto)]
 
 mod rows;

@@ -1,5 +1,4 @@
 // What one step of document 01's tokenizer does, counted from its place.
-
 #![tactic(auto)]
 
 mod plan;

@@ -1,5 +1,4 @@
 // The scans of document 01's token readers.
-
 #![tactic(auto)]
 
 mod readers;

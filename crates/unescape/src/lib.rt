@@ -1,6 +1,5 @@
 // Unescaping: a token of a document, or a given text, is the plain part of it, or a text that is written into a lent
 // buffer, or a refusal.
-
 #![tactic(auto)]
 
 mod texts;

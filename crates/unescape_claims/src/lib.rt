@@ -1,3 +1,2 @@
 // Theorems about unescaping: see specs/Claims and specs/ByText.
-
 #![tactic(auto)]

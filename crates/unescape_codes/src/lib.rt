@@ -1,5 +1,4 @@
 // The codes behind a backslash: a hexadecimal number between braces, and the five that are one byte.
-
 #![tactic(auto)]
 
 mod codes;

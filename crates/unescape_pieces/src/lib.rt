@@ -1,5 +1,4 @@
 // A text, one piece at a time: bytes as they stand, a scalar value, or why it is refused.
-
 #![tactic(auto)]
 
 mod pieces;

@@ -1,5 +1,4 @@
 // A token's text in the document and how it is read, and whether it may be read.
-
 #![tactic(auto)]
 
 mod source;

@@ -1,5 +1,4 @@
 // UTF-8 and scalar values, as the Unicode Standard defines them.
-
 #![tactic(auto)]
 
 mod scalar;

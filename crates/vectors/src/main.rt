@@ -1,6 +1,5 @@
 // Replays the stored answers of the Rust, standard input (docs/DIFFERENCES.md says how they were made), against the
 // library, and writes how many of each kind were checked and where one differs.
-
 #![tactic(auto)]
 
 mod answers;

@@ -1,3 +1,2 @@
 // Theorems about the exported batches: see specs/.
-
 #![tactic(auto)]
