@@ -52,7 +52,7 @@ module _ (d : List ℕ) (l : length d ≤ 16777216) where
 pub ends : Ends
 ends d l =
     let r = (tokens-read d l).1 in
-    let last = subst (Vouched d _) (reads_end r) (sound-vouches d l _ (last-kept (sound-kept d l) r (fresh-sound d))) in
+    let last = subst (Vouched d (tokens-read d l).0) (reads_end r) (sound-vouches d l _ (last-kept (sound-kept d l) r (fresh-sound d))) in
     record {
       last = (tokens-read d l).0;
       reads = r;

@@ -4,7 +4,9 @@ use Rattle.parser.specs.Step.{sections_after, ChangeFits}
 use Rattle.parser.proofs.state.sections_after.Goals as goal
 
 pub fixed-requires : goal.fixed-requires
-fixed-requires c = subst (λ x. ChangeFits x c.args.count) c.in let both = -Fix.is c.requires in record { count_nonzero = both.0; count_le_max_sections = both.1 }
+fixed-requires c =
+    let both = subst (λ x. ChangeFits x c.args.count) c.in-Fix.is c.requires in
+    record { count_nonzero = both.0; count_le_max_sections = both.1 }
 
 pub opened-requires : goal.opened-requires
 opened-requires c = subst (λ x. ChangeFits x c.args.count) c.in-Open.is c.requires

@@ -25,7 +25,7 @@ returns-in-3-sort c = rw (c.in-4.is, c.in-3-sort.is)
 
 pub returns-in_default-sort : goal.returns-in_default-sort
 unfolding settled_by outdent_by item_by key_by
-returns-in_default-sort c = rw (c.in-4.is, ne_eqb _ 3 c.in_default-sort.rest.1)
+returns-in_default-sort c = rw (c.in-4.is, ne_eqb _ 3 c.in_default-sort.in_default-sort-own.rest.1)
 
 pub returns-in-1-sort : goal.returns-in-1-sort
 unfolding settled_by outdent_by item_by key_by
@@ -37,7 +37,7 @@ returns-in-3-sort-2 c = rw (c.in-5.is, c.in-3-sort-2.is)
 
 pub returns-in_default-sort-2 : goal.returns-in_default-sort-2
 unfolding settled_by outdent_by item_by key_by
-returns-in_default-sort-2 c = rw (c.in-5.is, ne_eqb _ 1 c.in_default-sort-2.rest.0.1, ne_eqb _ 3 c.in_default-sort-2.rest.1)
+returns-in_default-sort-2 c = rw (c.in-5.is, ne_eqb _ 1 c.in_default-sort-2.in_default-sort-2-own.rest.0.1, ne_eqb _ 3 c.in_default-sort-2.in_default-sort-2-own.rest.1)
 
 pub returns-in-2-sort : goal.returns-in-2-sort
 unfolding settled_by outdent_by item_by key_by
@@ -49,7 +49,7 @@ returns-in-3-sort-3 c = rw (c.in-6.is, c.in-3-sort-3.is)
 
 pub returns-in_default-sort-3 : goal.returns-in_default-sort-3
 unfolding settled_by outdent_by item_by key_by
-returns-in_default-sort-3 c = rw (c.in-6.is, ne_eqb _ 2 c.in_default-sort-3.rest.0.1, ne_eqb _ 3 c.in_default-sort-3.rest.1)
+returns-in_default-sort-3 c = rw (c.in-6.is, ne_eqb _ 2 c.in_default-sort-3.in_default-sort-3-own.rest.0.1, ne_eqb _ 3 c.in_default-sort-3.in_default-sort-3-own.rest.1)
 
 pub returns-in_default : goal.returns-in_default
 unfolding settled_by outdent_by item_by key_by

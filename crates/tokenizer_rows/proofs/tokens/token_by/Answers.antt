@@ -41,4 +41,4 @@ returns-in-9 c = rw c.in-9.is
 
 pub returns-in_default : goal.returns-in_default
 unfolding token_by
-returns-in_default c = rw first_else
+returns-in_default c = let h = c.in_default.in_default-own.rest in rw first_else
