@@ -1,13 +1,13 @@
 -- The characters in quotes, piece by piece: what `quoted` says byte by byte is a run of bytes as they stand, or one escape, and
 -- then the same after it.
-use Prim.Native.Nat.{ℕ, zero, suc, ◌+◌, ◌≤◌, ◌<◌}
+use Prim.Native.Nat.{ℕ, suc, ◌+◌, ◌<◌}
 use mathlib.Core.Path.{◌≡◌, refl, sym, ap, ◌∙◌}
 use mathlib.Core.List.{List, [], ◌∷◌, ◌++◌, append-nil, append_assoc}
 use mathlib.Core.Bool.{Bool, true, false, cond, not, ◌||◌}
 use native.Mathlib.Nat.{add-zero}
 use native.Mathlib.Omega.{arith}
 use lib.Dec.{eqb}
-use lib.ListN.{length, take, drop, get_or}
+use lib.ListN.{take, drop, get_or}
 use borrow.Author.Tests.{eqb-true}
 use Rattle.text.specs.Bytes.{count_while}
 use Rattle.utf8.specs.Scalar.{is_scalar, encoding}

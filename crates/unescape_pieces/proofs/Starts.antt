@@ -1,23 +1,22 @@
 -- What the reading of a text begins with is its meaning: a part of it, or the pieces from a place on.
-use Prim.Native.Nat.{ℕ, zero, suc, ◌+◌, ◌-◌, ◌≤◌}
+use Prim.Native.Nat.{ℕ, suc, ◌+◌, ◌-◌, ◌≤◌}
 use mathlib.Core.Path.{◌≡◌, refl, sym, ap, ap₂, subst, ◌∙◌}
 use mathlib.Core.List.{List, [], ◌∷◌}
-use mathlib.Core.Bool.{Bool, true, false, cond, not, ◌&&◌, and-true, and-false}
+use mathlib.Core.Bool.{Bool, false, ◌&&◌, and-true, and-false}
 use native.Mathlib.Omega.{arith}
-use lib.Dec.{eqb, leb, eqb-suc-suc, eqb-zero-suc}
+use lib.Dec.{eqb, eqb-suc-suc}
 use lib.ListN.{length, take, drop, get_or}
 use borrow.Author.Tests.{eqb-true, ne_eqb, le-leb}
 use Rattle.text.specs.Bytes.{count_while, line_end}
 use Rattle.text.proofs.Cases.{by_bool, on-cond, and_left}
 use Rattle.text.proofs.Scan.{count-le}
-use Rattle.unescape_pieces.specs.Meaning.{Meaning, part, all_literal, simply_quoted, entry_meaning, block_meaning, meaning}
+use Rattle.unescape_pieces.specs.Meaning.{part, all_literal, simply_quoted, entry_meaning, block_meaning, meaning}
 use Rattle.unescape_pieces.specs.Pieces.{is_literal, entry_start, block_start, start_of, begun, meaning_from}
 use Rattle.unescape_pieces.specs.declared.start.Style.{Style}
 use Rattle.unescape_pieces.specs.declared.start.Style.TheVariants.{AsIs, Entry, Block}
 use Rattle.unescape_pieces.specs.declared.start.Start.{Start}
 use Rattle.unescape_pieces.specs.declared.start.Start.TheVariants.{Plain, Pieces}
 use Rattle.unescape_pieces.specs.declared.pieces.Spot.{Spot}
-use Rattle.unescape_pieces.specs.declared.pieces.Spot.TheVariants.{Quotes}
 use Rattle.unescape_pieces.proofs.Escapes.{neither}
 
 -- Quotes at both ends and nothing to unescape between: the first `"` or `\` after the opening quote is a `"`, the last byte

@@ -1,7 +1,7 @@
 -- One law for every loop over a text's pieces (measuring, surveying, comparing, writing): the meaning from where the loop began is what
 -- was passed so far, w, written in front of the meaning from the cursor on. A loop's invariant is then: there is a w with this, and
 -- what the loop keeps is a function of w.
-use Prim.Native.Nat.{ℕ, ◌+◌, ◌-◌, ◌≤◌}
+use Prim.Native.Nat.{ℕ, ◌+◌, ◌≤◌}
 use mathlib.Core.Path.{◌≡◌, refl, sym, ap, ◌∙◌}
 use mathlib.Core.List.{List, [], ◌++◌, append_assoc, append-nil}
 use lib.ListN.{length, take, drop}

@@ -1,15 +1,15 @@
 -- The pieces together are the meaning: from a cursor on, it is the piece that stands there and then the meaning from the next
 -- cursor on (`law`). A piece that is passed lies within the text, and `weight` falls with it (`steps`).
-use Prim.Native.Nat.{ℕ, zero, suc, ◌+◌, ◌-◌, ◌*◌, ◌≤◌, ◌<◌}
+use Prim.Native.Nat.{ℕ, suc, ◌+◌, ◌-◌, ◌*◌, ◌≤◌, ◌<◌}
 use mathlib.Core.Path.{◌≡◌, refl, sym, ap, ◌∙◌}
-use mathlib.Core.List.{List, [], ◌∷◌, ◌++◌}
+use mathlib.Core.List.{List, [], ◌∷◌}
 use mathlib.Core.Bool.{Bool, true, false, cond}
 use native.Mathlib.Omega.{arith}
 use lib.Dec.{eqb, ltb}
-use lib.ListN.{length, take, drop, get_or, length-drop, get_or-eq_default}
+use lib.ListN.{length, take, drop, get_or, get_or-eq_default}
 use lib.Seq.{length-take-le}
 use borrow.Author.Tests.{eqb-true, eqb-false, ltb-true, ltb-false, lt-ltb}
-use Rattle.text.specs.Bytes.{count_while, line_end, not_break, break_size, starts_with, first_of}
+use Rattle.text.specs.Bytes.{count_while, line_end, not_break, break_size, starts_with}
 use Rattle.utf8.specs.Scalar.{is_scalar, encoding, encoding_of}
 use Rattle.utf8.specs.Utf8.{char_len}
 use Rattle.text.proofs.Cases.{by_bool, on-cond, clash}
@@ -18,7 +18,7 @@ use Rattle.text.proofs.Front.{break-le}
 use Rattle.text.proofs.Prefix.{short}
 use Rattle.text.proofs.Scan.{count-le}
 use Rattle.unescape_codes.specs.Codes.{code_of, simple_of}
-use Rattle.unescape_pieces.specs.Meaning.{Meaning, bytes, code, refused, written, plain, escape, brace, closed, quoted, is_empty, lines_in, later_lines}
+use Rattle.unescape_pieces.specs.Meaning.{Meaning, bytes, code, refused, written, plain, escape, closed, quoted, is_empty, later_lines}
 use Rattle.unescape_pieces.specs.Pieces.{
   is_literal,
   in_brace,

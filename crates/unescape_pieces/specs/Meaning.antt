@@ -1,8 +1,8 @@
 -- Law: document 01, 'Unescaping': what a text means, given how it is to be read, its bytes and its indentation's bytes.
 -- Places here are counted from the start of the text.
-use Rattle.std.specs.Prelude.{ℕ, zero, suc, ◌+◌, ◌-◌, List, [], ◌∷◌, ◌++◌, Bool, true, false, cond, not, ◌&&◌, ◌||◌, eqb, leb, length, take, drop, get_or}
+use Rattle.std.specs.Prelude.{ℕ, ◌+◌, ◌-◌, List, [], ◌∷◌, ◌++◌, Bool, true, false, cond, not, ◌&&◌, ◌||◌, eqb, leb, length, take, drop, get_or}
 use Prim.Native.Char.{code as byte}
-use Rattle.text.specs.Bytes.{is_break, count_while, not_break, starts_with}
+use Rattle.text.specs.Bytes.{count_while, not_break, starts_with}
 use Rattle.utf8.specs.Utf8.{char_len}
 use Rattle.utf8.specs.Scalar.{is_scalar, encoding}
 use Rattle.text.specs.Numbers.{escape_at_end, extra_characters, unclosed_quotes}

@@ -3,7 +3,6 @@ use Prim.Native.Nat.{◌+◌, ◌-◌, ◌≤◌}
 use mathlib.Core.Path.{◌≡◌}
 use lib.ListN.{length, drop}
 use Rattle.text.specs.Bytes.{count_while}
-use Rattle.text.proofs.Scan.{stop}
 use Rattle.unescape_pieces.specs.Pieces.{is_before}
 use Rattle.unescape_pieces.proofs.pieces.len_before.Given as goal
 
