@@ -2,7 +2,7 @@
 -- and the buffer after it, whose bytes were dots.
 use Prim.Native.Nat.{ℕ}
 use mathlib.Core.Path.{◌≡◌, refl}
-use mathlib.Core.List.{List, [], ◌∷◌, ◌++◌}
+use mathlib.Core.List.{List, [], ◌∷◌}
 use lib.ListN.{length}
 use Rattle.text.specs.Bytes.{part}
 use Rattle.text.specs.Ascii.{ascii}

@@ -1,11 +1,11 @@
 -- A buffer whose first bytes are put there one after the other.
 use Prim.Native.Nat.{ℕ, suc, ◌+◌, ◌-◌, ◌≤◌, ◌<◌}
-use mathlib.Core.Path.{◌≡◌, refl, sym, ap, ◌∙◌}
-use mathlib.Core.List.{List, [], ◌∷◌, ◌++◌, append_assoc, append-nil}
+use mathlib.Core.Path.{◌≡◌, refl, sym, ◌∙◌}
+use mathlib.Core.List.{List, [], ◌++◌, append_assoc, append-nil}
 use native.Mathlib.Numerals.{add-one}
 use native.Mathlib.Nat.{le_antisymm, sub-zero}
 use native.Mathlib.Omega.{arith}
-use lib.ListN.{length, take, drop, get_or, set, length-take, length-drop, length-append, drop_of_length-le, take-append-drop}
+use lib.ListN.{length, take, drop, get_or, set, length-drop, length-append, drop_of_length-le, take-append-drop}
 use lib.Seq.{take-suc, drop-cons, drop-drop, set_at, take_at, drop_at, length-take-le, take-length}
 use Rattle.text.proofs.Front.{from}
 use Rattle.unescape_pieces.specs.Meaning.{Meaning, part, bytes, code, refused, written}

@@ -1,12 +1,12 @@
 -- A turn of the loop that writes: the piece fits behind what is written, and with it the whole stays the same.
 use Prim.Native.Nat.{ℕ, ◌+◌, ◌-◌, ◌≤◌}
-use mathlib.Core.Path.{◌≡◌, ◌∙◌, sym}
-use mathlib.Core.List.{List, [], ◌++◌}
+use mathlib.Core.Path.{◌≡◌, sym}
+use mathlib.Core.List.{List, ◌++◌}
 use native.Mathlib.Omega.{arith}
 use lib.ListN.{length, take, drop, length-drop}
 use Rattle.utf8.specs.Scalar.{encoding_of}
 use Rattle.text.proofs.Front.{from}
-use Rattle.unescape_pieces.specs.Meaning.{Meaning, bytes, code, refused}
+use Rattle.unescape_pieces.specs.Meaning.{Meaning}
 use Rattle.unescape_pieces.specs.Pieces.{next_of, meaning_from}
 use Rattle.unescape_pieces.specs.declared.pieces.Spot.{Spot}
 use Rattle.unescape_pieces.specs.declared.pieces.Piece.TheVariants.{Run, Scalar, End, Code, Refused}

@@ -1,5 +1,4 @@
 use Rattle.unescape.proofs.Writing.{run_room, run_fits, run-wrote, scalar-room, scalar_fits, scalar-wrote, end-wrote, code-none, refused_none}
-use Prim.Native.Nat.{◌-◌}
 use native.Mathlib.Omega.{arith}
 use Rattle.text.proofs.Front.{from}
 use Rattle.unescape.proofs.Filling.{none_written}
