@@ -106,7 +106,7 @@ middle-11 s = rw (← middle-words s.awaited s.kept s.count)
 
 -- a state that is owned has 65 sections
 pub owned-65 : (s : State) {v : List Val} → Is (row the_type) s v → length s.sections ≡ 65
-owned-65 s o = rw length-map at o.1.1.1.1.1.1.0.1.0.1
+owned-65 s o = o.1.1.1.1.1.1.0.1.0.1
 
 -- the tokenizer's words, then the middle, then the sections
 pub all-written : (s : State) (w : List ℕ) → length s.tokenizer.indents ≡ 64 → length s.sections ≡ 65

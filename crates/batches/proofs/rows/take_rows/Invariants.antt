@@ -8,7 +8,7 @@ use Rattle.batches.proofs.Taking.{Turn}
 use Rattle.batches.proofs.rows.take_rows.Given as goal
 
 abbrev pub invariant-loop-n : goal.invariant-loop-n
-invariant-loop-n l = (length l.rows ≡ length l.initial.w) × Turn (stepping l.layer l.doc) l.initial.w l.rows l.initial.rows l.n l.room l.w
+invariant-loop-n l = (length l.rows ≡ length l.initial.rows) × Turn (stepping l.layer l.doc) l.initial.rows l.rows l.room l.n l.initial.w l.w
 
 abbrev pub decreases-loop-n : goal.decreases-loop-n
-decreases-loop-n l = l.initial.rows - l.n
+decreases-loop-n l = l.room - l.n

@@ -13,4 +13,4 @@ returns-in-2 c = rw c.in-2.is
 
 pub returns-in_default : goal.returns-in_default
 unfolding awaited_in
-returns-in_default c = rw first_else
+returns-in_default c = let h = c.in_default.in_default-own.rest in rw first_else

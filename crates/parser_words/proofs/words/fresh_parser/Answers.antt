@@ -4,4 +4,4 @@ use Rattle.parser_words.proofs.words.fresh_parser.Goals as goal
 
 pub returns : goal.returns
 unfolding fresh_parser_in parser_stored_in
-returns c = record { value = rw c.new.ensures at c.store_parser.ensures; state_after = rw c.new.ensures at c.store_parser.ensures }
+returns c = record { value = c.store_parser.ensures.value; state_after = rw c.new.ensures at c.store_parser.ensures.words_after }

@@ -7,26 +7,33 @@ use Rattle.parser_words.proofs.Restoring.{tokenizer-reads, restored-parser}
 use Rattle.parser_words.proofs.words.restore_parser.Goals as goal
 
 pub returns-then-not-is_parser : goal.returns-then-not-is_parser
-returns-then-not-is_parser c = let e = sym c.is_parser.ensures ∙ c.if-not-is_parser.true in record { value = rw e (refl, refl); dst_after = rw e (refl, refl) }
+returns-then-not-is_parser c =
+    record { value = rw (sym c.is_parser.ensures ∙ c.if-not-is_parser.true); dst_after = refl }
 
 pub returns-then-not-is_fit : goal.returns-then-not-is_fit
 unfolding parser_in
 returns-then-not-is_fit c =
     let r = sym c.is_parser.ensures ∙ c.if-not-is_parser.false in
-    let f = rw (tokenizer-reads _ r) at (sym c.is_fit.ensures ∙ c.if-not-is_fit.true) in record { value = rw (r, f) (refl, refl); dst_after = rw (r, f) (refl, refl) }
+    let f = rw (tokenizer-reads _ r) at (sym c.is_fit.ensures ∙ c.if-not-is_fit.true) in
+    record { value = rw (r, f); dst_after = refl }
 
 pub returns-then-dst-lt278 : goal.returns-then-dst-lt278
 unfolding parser_in parser_stored_in
 returns-then-dst-lt278 c =
     let r = sym c.is_parser.ensures ∙ c.if-not-is_parser.false in
-    let f = rw (tokenizer-reads _ r) at (sym c.is_fit.ensures ∙ c.if-not-is_fit.false) in record { value = rw (r, f, lt-leb _ _ c.if-dst-lt278.true) (refl, refl); dst_after = rw (r, f, lt-leb _ _ c.if-dst-lt278.true) (refl, refl) }
+    let f = rw (tokenizer-reads _ r) at (sym c.is_fit.ensures ∙ c.if-not-is_fit.false) in
+    record { value = rw (r, f); dst_after = rw (lt-leb _ _ c.if-dst-lt278.true) }
 
 pub copy_parser-requires : goal.copy_parser-requires
-copy_parser-requires c =
-    has-278 _ (sym c.is_parser.ensures ∙ c.if-not-is_parser.false)
+copy_parser-requires c = has-278 _ (sym c.is_parser.ensures ∙ c.if-not-is_parser.false)
 
 pub returns : goal.returns
 unfolding parser_in
 returns c =
     let r = sym c.is_parser.ensures ∙ c.if-not-is_parser.false in
-    let f = rw (tokenizer-reads _ r) at (sym c.is_fit.ensures ∙ c.if-not-is_fit.false) in record { value = rw (r, f) (refl, c.copy_parser.ensures ∙ restored-parser _ _ r c.if-dst-lt278.false ∙ sym (stored-278 _ _ c.if-dst-lt278.false)); dst_after = rw (r, f) (refl, c.copy_parser.ensures ∙ restored-parser _ _ r c.if-dst-lt278.false ∙ sym (stored-278 _ _ c.if-dst-lt278.false)) }
+    let f = rw (tokenizer-reads _ r) at (sym c.is_fit.ensures ∙ c.if-not-is_fit.false) in
+    record {
+      value = rw (r, f);
+      dst_after =
+        c.copy_parser.ensures ∙ restored-parser _ _ r c.if-dst-lt278.false ∙ sym (stored-278 _ _ c.if-dst-lt278.false);
+    }

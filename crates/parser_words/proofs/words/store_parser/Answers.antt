@@ -19,4 +19,4 @@ returns c =
     let e = le-leb _ _ c.if-words-lt278.false in
     let t = c.store.ensures.words_after ∙ stored-137 _ _ (omega (arith, c.if-words-lt278.false)) in
     let q = c.paste.ensures ∙ pasted-room _ _ _ (omega (arith, c.if-words-lt278.false, c.store.auto)) in
-    let w = all-written c.args.s c.args.words.now (owned-64 c.args.s.tokenizer c.well-formed.0.1.1.0) (owned-65 c.args.s c.well-formed.0) in record { value = sym e; words_after = rw e (c.put_sections.ensures ∙ rw (q, c.middle-m.ensures, t) w) }
+    let w = all-written c.args.s c.args.words.now (owned-64 c.args.s.tokenizer c.well_formed.0.1.1.0) (owned-65 c.args.s c.well_formed.0) in record { value = sym e; words_after = rw e (c.put_sections.ensures ∙ rw (q, c.middle-m.ensures, t) w) }

@@ -2,4 +2,5 @@
 use Rattle.tokenizer_words.proofs.words.fresh.Goals as goal
 
 pub returns : goal.returns
-returns c = record { value = rw c.new.ensures at c.store.ensures; state_after = rw c.new.ensures at c.store.ensures }
+returns c =
+    record { value = c.store.ensures.value; state_after = rw c.new.ensures at c.store.ensures.words_after }

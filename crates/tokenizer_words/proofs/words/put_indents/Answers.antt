@@ -24,5 +24,5 @@ shape_of-w c = c.loop-k.invariant.1.0
 
 pub returns : goal.returns
 returns c =
-    let l : length c.args.self ≤ c.loop-k.k = omega arith in
+    let l : length c.args.indents ≤ c.loop-k.k = omega arith in
     rw (take_all _ _ l) at c.loop-k.invariant.1.1

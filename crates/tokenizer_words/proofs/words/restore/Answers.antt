@@ -8,16 +8,24 @@ use Rattle.tokenizer_words.proofs.Restoring.{restored}
 use Rattle.tokenizer_words.proofs.words.restore.Goals as goal
 
 pub returns-then-not-is_fit : goal.returns-then-not-is_fit
-returns-then-not-is_fit c = record { value = rw (sym c.is_fit.ensures ∙ c.if-not-is_fit.true) (refl, refl); dst_after = rw (sym c.is_fit.ensures ∙ c.if-not-is_fit.true) (refl, refl) }
+returns-then-not-is_fit c = record { value = sym (sym c.is_fit.ensures ∙ c.if-not-is_fit.true); dst_after = refl }
 
 pub returns-then-dst-lt137 : goal.returns-then-dst-lt137
 unfolding stored_in
-returns-then-dst-lt137 c = record { value = rw (sym c.is_fit.ensures ∙ c.if-not-is_fit.false, lt-leb _ _ c.if-dst-lt137.true) (refl, refl); dst_after = rw (sym c.is_fit.ensures ∙ c.if-not-is_fit.false, lt-leb _ _ c.if-dst-lt137.true) (refl, refl) }
+returns-then-dst-lt137 c =
+    record {
+      value = sym (sym c.is_fit.ensures ∙ c.if-not-is_fit.false);
+      dst_after = rw (lt-leb _ _ c.if-dst-lt137.true);
+    }
 
 pub copy_state-requires : goal.copy_state-requires
-copy_state-requires c =
-    has-137 _ (and_left (readable _) _ (sym c.is_fit.ensures ∙ c.if-not-is_fit.false))
+copy_state-requires c = has-137 _ (and_left (readable _) _ (sym c.is_fit.ensures ∙ c.if-not-is_fit.false))
 
 pub returns : goal.returns
 returns c =
-    let e = sym c.is_fit.ensures ∙ c.if-not-is_fit.false in record { value = rw e (refl, c.copy_state.ensures ∙ restored _ _ (and_left (readable _) _ e) c.if-dst-lt137.false ∙ sym (stored-137 _ _ c.if-dst-lt137.false)); dst_after = rw e (refl, c.copy_state.ensures ∙ restored _ _ (and_left (readable _) _ e) c.if-dst-lt137.false ∙ sym (stored-137 _ _ c.if-dst-lt137.false)) }
+    let e = sym c.is_fit.ensures ∙ c.if-not-is_fit.false in
+    record {
+      value = sym e;
+      dst_after =
+        c.copy_state.ensures ∙ restored _ _ (and_left (readable _) _ e) c.if-dst-lt137.false ∙ sym (stored-137 _ _ c.if-dst-lt137.false);
+    }
