@@ -8,7 +8,6 @@ use lib.Dec.{eqb, eqb-suc-zero}
 use lib.ListN.{length, drop, get_or, length-set, length-append, length-drop, get_or-eq_default}
 use lib.Seq.{get_or-drop, drop-drop}
 use borrow.Author.Tests.{lt-ltb, le-ltb}
-use types.Run.{OneOf, miss}
 use denote.Enum.Declared.{tag_of}
 use Rattle.text.specs.declared.bytes.Part.{Part}
 use Rattle.tokenizer_rules.specs.contracts.plan.Change.{the_type}
@@ -59,10 +58,10 @@ slot-in Close i n a r is e f h = refl
 slot-in Hold i n a r is e f h = refl
 
 -- the changes that open nothing, by their tags
-pub not-open : (c : Change) (i : Part) (n : ℕ) (w : List ℕ) → OneOf (0 ∷ 2 ∷ 3 ∷ []) (tag_of the_type c) → w ≡ slot_in c i n w
+pub not-open : (c : Change) (i : Part) (n : ℕ) (w : List ℕ) → (c ≡ Open → ⊥) → w ≡ slot_in c i n w
 unfolding slot_in
 not-open Keep i n w h = refl
-not-open Open i n w h = absurd (miss (0 ∷ 2 ∷ 3 ∷ []) 1 tt h)
+not-open Open i n w h = absurd (h refl)
 not-open Close i n w h = refl
 not-open Hold i n w h = refl
 

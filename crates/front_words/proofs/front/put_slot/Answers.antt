@@ -13,4 +13,4 @@ unfolding slot_in
 returns-else-depth-lt-MAX_OPEN c = rw (c.in-Open.is, le-ltb _ _ c.if-depth-lt-MAX_OPEN.false)
 
 pub returns-in_default : goal.returns-in_default
-returns-in_default c = not-open c.args.change c.args.indent c.args.depth c.args.w.now c.in_default.keys2
+returns-in_default c = not-open c.args.change c.args.indent c.args.depth c.args.w.now c.in_default.not-Open
