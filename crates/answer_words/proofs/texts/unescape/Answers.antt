@@ -16,23 +16,23 @@ answer-5 (Plain p) = refl
 answer-5 (Written n) = refl
 answer-5 (Refused n l p) = refl
 
-told : (c : tie.Else1) → has_answer c.before.before.before.before.before.before.args.doc.now c.before.before.before.before.before.before.args.row.now ≡ true
-told c = sym c.before.has-answer.ensures ∙ not-false _ c.if1.false
-
 pub returns-then-not-has_answer : goal.returns-then-not-has_answer
 unfolding text_of
 returns-then-not-has_answer c = let e = sym c.has_answer.ensures ∙ c.if-not-has_answer.true in record { value = rw e; out_after = rw e; answer_after = rw e }
 
 pub returns-then-answer-lt5 : goal.returns-then-answer-lt5
 unfolding text_of
-returns-then-answer-lt5 c = let e = told c{-BARE Else1-} in let f = lt-leb _ _ c.if-answer-lt5.true in record { value = rw (e, f); out_after = rw (e, f); answer_after = rw (e, f) }
+returns-then-answer-lt5 c = let e = sym c.has_answer.ensures ∙ c.if-not-has_answer.false in let f = lt-leb _ _ c.if-answer-lt5.true in record { value = rw (e, f); out_after = rw (e, f); answer_after = rw (e, f) }
 
 pub returns : goal.returns
 unfolding text_of
 returns c =
-    let e = told c{-BARE Else1-} in
+    let e = sym c.has_answer.ensures ∙ c.if-not-has_answer.false in
     let f = le-leb _ _ c.if-answer-lt5.false in
-    let p = c.paste.ensures ∙ pasted-room _ _ _ (omega arith) in record { value = rw (e, f); out_after = (
-        rw (e, f) (rw c.token_in-t.ensures at c.unescape-a.ensures.out_after),
-        rw (e, f) (p ∙ rw (pasted-front, c.answer_words-w.ensures, c.unescape-a.ensures.value, c.token_in-t.ensures, answer-5)),
-      ); answer_after =  }
+    let p = c.paste.ensures ∙ pasted-room _ _ _ (omega arith) in
+    record {
+      value = rw (e, f);
+      out_after = rw (e, f) (rw c.token_in-t.ensures at c.unescape-a.ensures.out_after);
+      answer_after =
+        rw (e, f) (p ∙ rw (pasted-front, c.answer_words-w.ensures, c.unescape-a.ensures.value, c.token_in-t.ensures, answer-5));
+    }
