@@ -14,4 +14,4 @@ returns-then-room-ge7 c = rw (le-ltb _ _ c.if-room-ge7.true)
 pub returns : goal.returns
 returns c =
     rw (lt-ltb _ _ c.if-room-ge7.false)
-    (ap (λ x. eqb x 271) c.take_rows-t.ensures.1.0 ∙ last_one (stepping Parser c.args.doc.now) c.args.words.now (not-unfit _))
+    (ap (λ x. eqb x 271) c.take_rows-t.ensures.last_value ∙ last_one (stepping Parser c.args.doc.now) c.args.words.now (not-unfit _))

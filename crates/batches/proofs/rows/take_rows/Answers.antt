@@ -11,29 +11,26 @@ pub loop-n-init : goal.loop-n-init
 loop-n-init c = (refl, start _ _ _ _)
 
 pub shape_of-rows-then-stops : goal.shape_of-rows-then-stops
-shape_of-rows-then-stops c = c.step_in-last.auto.1.1.1.1.0 ∙ c.loop-n.invariant.0
+shape_of-rows-then-stops c = c.step_in-last.auto.rows ∙ c.loop-n.invariant.0
 
 pub returns-then-stops : goal.returns-then-stops
 returns-then-stops c =
     let g = step_in c.args.layer c.args.doc.now c.loop-n.w in
-    let e : stops_at g.said.number ≡ true = ap stops_at (sym c.step_in-last.ensures.0) ∙ sym c.stops.ensures ∙ c.if-stops.true in
-    let d = at-end _ _ _ _ c.loop-n.invariant.1 e in (
-      d.0,
-      (
-        c.step_in-last.ensures.0 ∙ sym (last-stop _ _ _ _ c.loop-n.invariant.1 c.loop-n-test.true d),
-        (
-          c.step_in-last.ensures.1.0 ∙ ap (λ (x : Gone). x.words) (stop-stays c.args.layer c.args.doc.now c.loop-n.w e) ∙ d.1.0,
-          c.step_in-last.ensures.1.1 ∙ row-none g.said _ c.loop-n.rows e ∙ d.1.1,
-        ),
-      ),
-    )
+    let e : stops_at g.said.number ≡ true = ap stops_at (sym c.step_in-last.ensures.value) ∙ sym c.stops.ensures ∙ c.if-stops.true in
+    let d = at-end _ _ _ _ c.loop-n.invariant.1 e in
+    record {
+      rows_value = d.0;
+      last_value = c.step_in-last.ensures.value ∙ sym (last-stop _ _ _ _ c.loop-n.invariant.1 c.loop-n-test.true d);
+      w_after = c.step_in-last.ensures.w_after ∙ ap (λ (x : Gone). x.words) (stop-stays c.args.layer c.args.doc.now c.loop-n.w e) ∙ d.1.0;
+      rows_after = c.step_in-last.ensures.rows_after ∙ row-none g.said _ c.loop-n.rows e ∙ d.1.1;
+    }
 
 pub loop-n-preserved : goal.loop-n-preserved
 loop-n-preserved c =
     let g = step_in c.args.layer c.args.doc.now c.loop-n.w in
-    let e : stops_at g.said.number ≡ false = ap stops_at (sym c.step_in-last.ensures.0) ∙ sym c.stops.ensures ∙ c.if-stops.false in (
-      c.step_in-last.auto.1.1.1.1.0 ∙ c.loop-n.invariant.0,
-      next _ _ _ _ c.loop-n.invariant.1 c.loop-n-test.true (omega (arith, c.loop-n-test.true, c.loop-n.invariant.0)) e (c.step_in-last.ensures.1.1 ∙ row_put g.said _ c.loop-n.rows e) c.step_in-last.ensures.1.0,
+    let e : stops_at g.said.number ≡ false = ap stops_at (sym c.step_in-last.ensures.value) ∙ sym c.stops.ensures ∙ c.if-stops.false in (
+      c.step_in-last.auto.rows ∙ c.loop-n.invariant.0,
+      next _ _ _ _ c.loop-n.invariant.1 c.loop-n-test.true (omega (arith, c.loop-n-test.true, c.loop-n.invariant.0)) e (c.step_in-last.ensures.rows_after ∙ row_put g.said _ c.loop-n.rows e) c.step_in-last.ensures.w_after,
     )
 
 pub shape_of-rows : goal.shape_of-rows

@@ -10,15 +10,25 @@ use Rattle.batches.proofs.token_batch.tokenize.Goals as goal
 
 pub returns-then-doc-gt-MAX_DOCUMENT : goal.returns-then-doc-gt-MAX_DOCUMENT
 unfolding batch_of
-returns-then-doc-gt-MAX_DOCUMENT c = let both = promised (over _ _ _ _ _ c.if-doc-gt-MAX_DOCUMENT.true) in record { value = both.0; state_after = both.1; rows_after = both.2 }
+returns-then-doc-gt-MAX_DOCUMENT c =
+    let all = promised (over _ _ _ _ _ c.if-doc-gt-MAX_DOCUMENT.true) in
+    record { value = all.0; state_after = all.1.0; rows_after = all.1.1 }
 
 pub returns-then-not-put_tokenizer : goal.returns-then-not-put_tokenizer
 unfolding batch_of
-returns-then-not-put_tokenizer c = let both = promised (unfit _ _ _ _ _ c.if-doc-gt-MAX_DOCUMENT.false (sym c.put_tokenizer.ensures.0 ∙ c.if-not-put_tokenizer.true)) in record { value = both.0; state_after = both.1; rows_after = both.2 }
+returns-then-not-put_tokenizer c =
+    let all =
+        promised
+        (unfit _ _ _ _ _ c.if-doc-gt-MAX_DOCUMENT.false (sym c.put_tokenizer.ensures.value ∙ c.if-not-put_tokenizer.true)) in
+    record { value = all.0; state_after = all.1.0; rows_after = all.1.1 }
 
 pub returns : goal.returns
 returns c =
     let y = c.if-not-put_tokenizer.false in
-    let g = c.put_tokenizer.ensures.1 ∙ ap (λ x. cond x (stored_in (state_in c.args.state.now) _) _) y in
-    let r = rw g at c.take_rows-t.ensures in let both = tokens-done c.args.doc.now c.args.state.now c.args.rows.now _ _ c.if-doc-gt-MAX_DOCUMENT.false (omega arith) (sym c.put_tokenizer.ensures.0 ∙ y)
-    r.0 r.1.1.0 r.1.1.1 c.put_back.ensures in record { value = both.0; state_after = both.1; rows_after = both.2 }
+    let g = c.put_tokenizer.ensures.words_after ∙ ap (λ x. cond x (stored_in (state_in c.args.state.now) _) _) y in
+    let t = c.take_rows-t.ensures in
+    let all =
+        tokens-done c.args.doc.now c.args.state.now c.args.rows.now _ _ c.if-doc-gt-MAX_DOCUMENT.false (omega arith)
+        (sym c.put_tokenizer.ensures.value ∙ y)
+        (rw g at t.rows_value) (rw g at t.w_after) (rw g at t.rows_after) c.put_back.ensures in
+    record { value = all.0; state_after = all.1.0; rows_after = all.1.1 }
