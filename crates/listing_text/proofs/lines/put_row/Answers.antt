@@ -9,11 +9,8 @@ use mathlib.Core.List.{[], ◌∷◌}
 use Rattle.listing_text.proofs.Placing.{wrote, both, placed-length}
 use Rattle.listing_text.proofs.lines.put_row.Goals as goal
 
-near-end : (c : tie.After-put-number-arg3) → c.before.before.before.put-text3.result + 21 < 2 ^ 64
-near-end c = omega arith
-
 pub put_text-requires : goal.put_text-requires
-put_text-requires c = omega (arith, near-end c {-BARE After-put_number3-})
+put_text-requires c = let near : c.put_text-f.result + 21 < 2 ^ 64 = omega arith in omega arith
 
 pub returns : goal.returns
 unfolding row_text
@@ -25,7 +22,8 @@ returns c =
     let w5 = both w4 (wrote (decimal c.args.start) _ _ c.put_number-e.ensures.value c.put_number-e.ensures.out_after) in
     let w6 = both w5 (wrote (32 ∷ []) _ _ c.put_text-f.ensures.value c.put_text-f.ensures.out_after) in
     let w7 = both w6 (wrote (decimal c.args.end) _ _ c.put_number-g.ensures.value c.put_number-g.ensures.out_after) in
-    let w8 = both w7 (wrote (10 ∷ []) _ _ c.put_text.ensures.value c.put_text.ensures.out_after) in record { value = w8.place; upper_bound = omega arith; out_after = w8.buffer }
+    let w8 = both w7 (wrote (10 ∷ []) _ _ c.put_text.ensures.value c.put_text.ensures.out_after) in
+    record { value = w8.place; upper_bound = omega arith; out_after = w8.buffer }
 
 pub shape_of-out : goal.shape_of-out
-shape_of-out c = ap length (returns c).1.1 ∙ placed-length _ _ _
+shape_of-out c = ap length (returns c).out_after ∙ placed-length _ _ _
