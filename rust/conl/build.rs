@@ -1,4 +1,4 @@
-//! Links the proved static library, which `rt staticlib abi` makes of the repository two folders
+//! Links the proved static library, which `rt lib` makes in crates/abi of the repository two folders
 //! above.
 //!
 //! `target/conl` there keeps an archive, and the bytes of the sources that it was made of: where
@@ -85,7 +85,7 @@ fn archive(root: &Path) -> Result<Vec<u8>, String> {
         if self::sources(root)? != sources {
             return Err("the sources were changed while rt read them: build again".into());
         }
-        let made = root.join("target/staticlib/libabi.a");
+        let made = root.join("crates").join(CRATE).join("out/libabi.a");
         // Of nothing, until it is whole.
         fs::write(&of, "").map_err(unwritable)?;
         fs::copy(&made, &archive).map_err(|error| told(&made, error))?;
@@ -97,8 +97,8 @@ fn archive(root: &Path) -> Result<Vec<u8>, String> {
 /// Has rt prove the library and write the archive; where that fails, cargo shows what rt printed.
 fn make(root: &Path) -> Result<(), String> {
     let status = Command::new("rt")
-        .args(["staticlib", CRATE])
-        .current_dir(root)
+        .arg("lib")
+        .current_dir(root.join("crates").join(CRATE))
         .stdout(io::stderr())
         .status()
         .map_err(|error| {
@@ -112,7 +112,7 @@ fn make(root: &Path) -> Result<(), String> {
         Ok(())
     } else {
         let root = root.display();
-        Err(format!("`rt staticlib {CRATE}` in {root} failed: {status}"))
+        Err(format!("`rt lib` in {root}/crates/{CRATE} failed: {status}"))
     }
 }
 
@@ -134,11 +134,12 @@ fn sources(root: &Path) -> Result<Vec<u8>, String> {
 }
 
 /// The crate and those that it depends on, each with its own dependencies. A line of crates.txt is
-/// `NAME: DEP DEP ..`; behind `#` stands a comment. A library of the kit has no line.
+/// `NAME: DEP DEP ..`, or `NAME staticlib: DEP DEP ..`; behind `#` stands a comment. A library of the
+/// kit has no line.
 fn reached(list: &str) -> BTreeMap<&str, &str> {
     let lines = list.lines().filter_map(|line| {
         let (name, deps) = line.split('#').next()?.split_once(':')?;
-        Some((name.trim(), deps.trim()))
+        Some((name.split_whitespace().next()?, deps.trim()))
     });
     let listed: BTreeMap<_, _> = lines.collect();
     let mut reached = BTreeMap::new();
