@@ -2,17 +2,12 @@
 // standard error.
 #![tactic(auto)]
 
-ghost use Rattle.std.specs.Prelude.{◌≡◌, length};
-ghost use Rattle.io.specs.Counts.{IsPrefixLen};
+ghost use Rattle.std.specs.Prelude.{◌≡◌, ◌<◌, IfOk, length, take};
+ghost use Rattle.std.specs.Io.{ReadsAtMost};
+ghost use Rattle.std.specs.Io.KnownBytes.{Consumes, IsAtEnd};
 
-use libc::{STDERR_FILENO, STDIN_FILENO, STDOUT_FILENO};
-
-// What was read: so many bytes at the front of the buffer; none, where a read failed.
-#[derive(Clone, Copy)]
-struct Input {
-    len: usize,
-    failed: bool,
-}
+use std::io;
+use std::io::Read;
 
 // One byte more than a document may have, so that a longer one is seen to be so.
 fn doc_room() -> [u8; 65537]
@@ -28,60 +23,47 @@ fn out_room() -> [u8; 2752532]
     [0; 2752532]
 }
 
-fn tell(message: &[u8]) {
-    io::write_all(STDERR_FILENO, message);
+// A message that can't be written is lost.
+fn tell(rt: &impl Eprint, message: &str) {
+    let _ = rt.eprint(message);
 }
 
-// One read, to the front of the buffer. `io::read_full` would take a read that fails for the input's end.
-fn read_some(doc: &mut [u8]) -> Input
-    ensures { IsPrefixLen result.len doc.new }
-{
-    let got = libc::read(STDIN_FILENO, doc);
-    let len = io::count(got, doc);
-    Input {
-        len,
-        failed: got < 0,
-    }
-}
-
-// Reads until the input ends, doc is full or a read fails.
-fn read_document(doc: &mut [u8]) -> Input
-    ensures { IsPrefixLen result.len doc.new }
+// Reads until the input ends, doc is full or a read fails. What was read is the front of doc, and where that is not all
+// of it, the input has ended.
+fn read_document<R: Read>(input: &mut R, doc: &mut [u8]) -> io::Result<usize>
+    ensures bound { ReadsAtMost result doc.new }
+    ensures bytes { IfOk result (λ n. Consumes (R.remaining input.old) (R.remaining input.new) (take n doc.new)) }
+    ensures end { IfOk result (λ n. n < length doc.new → IsAtEnd (R.remaining input.new)) }
 {
     let mut len = 0;
     while len < doc.len() {
-        let more = read_some(&mut doc[len..]);
-        if more.failed {
-            return more;
+        let more = input.read(&mut doc[len..])?;
+        if more == 0 {
+            return Ok(len);
         }
-        if more.len == 0 {
-            return Input { len, failed: false };
-        }
-        len += more.len;
+        len += more;
     }
-    Input { len, failed: false }
+    Ok(len)
 }
 
 // Writes the first k bytes of out, which are a listing; one that does not fit, or can't be written, is told.
-fn print(out: &[u8], k: usize) {
+fn print(rt: &(impl Print + Eprint), out: &[u8], k: usize) {
     if out.len() < k {
-        tell(b"listing: the listing does not fit\n");
+        tell(rt, "listing: the listing does not fit\n");
         return;
     }
-    if !io::write_all(STDOUT_FILENO, &out[..k]) {
-        tell(b"listing: standard output can't be written\n");
+    if rt.write_all(&out[..k]).is_err() {
+        tell(rt, "listing: standard output can't be written\n");
     }
 }
 
-fn main() {
+fn main(rt: HostRuntime) {
     let mut doc = doc_room();
     let mut out = out_room();
-    let input = read_document(&mut doc);
-    if input.failed {
-        tell(b"listing: standard input can't be read\n");
+    let Ok(n) = read_document(&mut rt.stdin(), &mut doc) else {
+        tell(&rt, "listing: standard input can't be read\n");
         return;
-    }
-    let n = input.len;
+    };
     let k = listing_text::listing(&doc[..n], &mut out);
-    print(&out, k);
+    print(&rt, &out, k);
 }

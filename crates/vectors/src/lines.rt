@@ -1,7 +1,7 @@
 // The lines of the stored answers: a tag, a space, `x` and the text's bytes in lower-case hexadecimal, then the
 // answer's numbers in decimal, each behind a space.
 ghost use Rattle.std.specs.Prelude.{◌≤◌};
-ghost use Rattle.io.specs.Counts.{IsPrefixLen};
+ghost use Rattle.std.specs.Counts.{IsPrefixLen};
 
 // The text of a line, and where its numbers begin, or the line ends: 0 where the line can't be read.
 #[derive(Clone, Copy)]

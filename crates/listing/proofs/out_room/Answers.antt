@@ -1,7 +1,6 @@
 -- It has the length that lending it as a slice asks for.
-use Prim.Native.Nat.{ℕ}
-use mathlib.Core.Path.{sym}
-use lib.ListN.{length-replicate}
+use Rattle.std.proofs.Common.{ℕ, sym}
+use Rattle.std.proofs.lemmas.List.{length-replicate}
 use Rattle.listing.proofs.out_room.Goals as goal
 
 pub returns : goal.returns

@@ -1,7 +1,6 @@
 -- `room` has the length that lending it as a slice asks for.
-use Prim.Native.Nat.{ℕ}
-use lib.ListN.{length-replicate}
-use mathlib.Core.Path.{sym}
+use Rattle.std.proofs.Common.{ℕ, sym}
+use Rattle.std.proofs.lemmas.List.{length-replicate}
 use Rattle.vectors.proofs.room.Goals as goal
 
 pub returns : goal.returns

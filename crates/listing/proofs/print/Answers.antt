@@ -1,7 +1,0 @@
--- The front of a slice that is long enough has its length.
-use mathlib.Core.Path.{sym}
-use lib.Seq.{length-take-le}
-use Rattle.listing.proofs.print.Goals as goal
-
-pub slice_bounds-write_all-end : goal.slice_bounds-write_all-end
-slice_bounds-write_all-end c = sym (length-take-le _ _ c.if-out-k.false)
