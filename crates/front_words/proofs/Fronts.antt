@@ -1,21 +1,19 @@
 -- The tokenizer's part of the words: what a step reads there, and what it leaves there, is what stands in the state.
 use Prim.Native.Nat.{ℕ, zero, suc, ◌+◌, ◌*◌, ◌≤◌, ◌<◌}
 use mathlib.Core.Path.{◌≡◌, refl, sym, ap, ◌∙◌}
-use mathlib.Core.List.{List, [], ◌∷◌, ◌++◌, append_assoc}
-use mathlib.Core.Bool.{true, false}
+use mathlib.Core.List.{List, ◌++◌, append_assoc}
+use mathlib.Core.Bool.{true}
 use native.Mathlib.Omega.{arith}
 use lib.Dec.{eqb, eqb-suc-zero}
-use lib.ListN.{length, drop, get_or, length-set, length-append, length-drop, get_or-eq_default}
+use lib.ListN.{length, drop, get_or, length-append, length-drop, get_or-eq_default}
 use lib.Seq.{get_or-drop, drop-drop}
-use borrow.Author.Tests.{lt-ltb, le-ltb}
-use denote.Enum.Declared.{tag_of}
+use borrow.Author.Tests.{lt-ltb}
 use Rattle.text.specs.declared.bytes.Part.{Part}
-use Rattle.tokenizer_rules.specs.contracts.plan.Change.{the_type}
 use Rattle.tokenizer_rules.specs.declared.plan.Change.{Change}
 use Rattle.tokenizer_rules.specs.declared.plan.Change.TheVariants.{Keep, Open, Close, Hold}
 use Rattle.tokenizer.specs.Token.{token_values, values_of}
 use Rattle.tokenizer.specs.Step.{no_part, inner_of, indents_after, depth_after, fit, step_of}
-use Rattle.tokenizer.specs.Front.{front_of, ahead_of, advanced_of}
+use Rattle.tokenizer.specs.Front.{front_of, ahead_of}
 use Rattle.tokenizer.specs.Lists.{is_end}
 use Rattle.tokenizer.specs.declared.front.Front.{Front}
 use Rattle.tokenizer.specs.declared.state.State.{State}

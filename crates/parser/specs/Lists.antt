@@ -1,7 +1,7 @@
 -- Law: document 01, 'Parser': the parser's list for a document holds every answer of its step before the first End;
 -- over the size limit it is the one refusal 12. Beside it, the same as a function over the tokenizer's list, which is
 -- intermediate: parser_claims, proofs/Claimed, shows that it is this list.
-use Rattle.std.specs.Prelude.{ℕ, zero, suc, ◌*◌, ◌≤◌, ◌<◌, ◌≡◌, List, [], ◌∷◌, ◌++◌, Bool, true, false, cond, eqb, ltb, length}
+use Rattle.std.specs.Prelude.{ℕ, suc, ◌≤◌, ◌<◌, ◌≡◌, List, [], ◌∷◌, ◌++◌, Bool, true, false, cond, eqb, ltb, length}
 use Rattle.text.specs.Numbers.{max_document, too_long, unfit_state}
 use Rattle.tokenizer.specs.Lists.{tokens}
 use Rattle.tokenizer.specs.declared.token.Token.{Token}

@@ -1,6 +1,6 @@
 -- Law: document 01, 'Parser', and document 02, request 5, the line that a section's record keeps: the state, and the
 -- step over it. 12, then 15, then End once refused, then the rules.
-use Rattle.std.specs.Prelude.{ℕ, zero, suc, ◌+◌, ◌-◌, ◌≤◌, ◌<◌, List, Bool, true, false, cond, leb, ltb, length, get_or, set, replicate}
+use Rattle.std.specs.Prelude.{ℕ, zero, suc, ◌+◌, ◌-◌, ◌≤◌, ◌<◌, List, Bool, false, cond, leb, ltb, length, get_or, set, replicate}
 use Rattle.text.specs.Numbers.{max_document, max_open, too_long, unfit_state}
 use Rattle.tokenizer.specs.Step.{fit}
 use Rattle.tokenizer.specs.Step.{step_of as tokenStep}

@@ -2,7 +2,7 @@
 -- parser the whole layouts are, over the same rules. Here they stand so that an edit of rule and code alike is refused.
 use Prim.Native.Nat.{ℕ}
 use mathlib.Core.Path.{◌≡◌, refl}
-use mathlib.Core.Bool.{Bool, true, false}
+use mathlib.Core.Bool.{true, false}
 use Rattle.text.specs.Bytes.{part}
 use Rattle.tokenizer.specs.declared.token.Token.{Token}
 use Rattle.tokenizer.specs.declared.token.Token.TheVariants.{Newline, Indent, Outdent, ListItem, MapKey, Value}

@@ -30,7 +30,6 @@ use Rattle.parser_rules.specs.declared.ruling.Innermost.{Innermost}
 use Rattle.parser_rules.specs.declared.ruling.Innermost.TheVariants.{Missing, Of}
 use Rattle.parser_rules.specs.declared.ruling.Change.{Change}
 use Rattle.parser_rules.specs.declared.ruling.Change.TheVariants.{Keep, Fix, Open, Close}
-use Rattle.parser_rules.specs.declared.ruling.Verdict.{Verdict}
 use Rattle.parser_rules.specs.declared.ruling.Ruling.{Ruling}
 use Rattle.parser_rules.specs.declared.ruling.Ruling.TheVariants.{Says, End, Unfit}
 

@@ -8,7 +8,7 @@ use native.Mathlib.Nat.{add-zero}
 use native.Mathlib.Numerals.{add-one}
 use native.Mathlib.Omega.{arith}
 use lib.Dec.{leb}
-use lib.ListN.{length, take, drop, get_or, set, length-append, length-map}
+use lib.ListN.{length, take, drop, get_or, set, length-append}
 use lib.Seq.{get_or-drop, drop-drop, take-suc, length-take-le}
 use mir.Val.{Val}
 use denote.Laws.{Is}
@@ -21,17 +21,7 @@ use Rattle.parser.specs.declared.state.Section.{Section}
 use Rattle.parser.specs.declared.state.State.{State}
 use Rattle.parser.specs.contracts.state.State.{the_type}
 use Rattle.tokenizer_words.specs.Words.{pasted, words_of}
-use Rattle.parser_words.specs.ParserWords.{
-  sort_word,
-  section_words,
-  awaited_words,
-  kept_words,
-  middle_words,
-  parser_words,
-  sort_in,
-  sections_in,
-  are_sorts,
-}
+use Rattle.parser_words.specs.ParserWords.{sort_word, section_words, awaited_words, kept_words, middle_words, parser_words, sections_in, are_sorts}
 use Rattle.tokenizer_words.proofs.Pasting.{pasted-more, pasted-after}
 use Rattle.tokenizer_words.proofs.Slots.{words-137}
 

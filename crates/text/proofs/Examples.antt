@@ -2,8 +2,7 @@
 use Prim.Native.Nat.{◌*◌}
 use Prim.Native.Char.{code as byte}
 use mathlib.Core.Path.{◌≡◌, refl}
-use mathlib.Core.List.{List, [], ◌∷◌}
-use mathlib.Core.Bool.{Bool, true, false}
+use mathlib.Core.Bool.{true, false}
 use Rattle.text.specs.Ascii.{ascii}
 use Rattle.text.specs.Numbers.{max_document, max_open}
 use Rattle.text.specs.Bytes.{is_blank, is_break, break_size, count_while, line_end, starts_with, part}

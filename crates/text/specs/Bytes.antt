@@ -1,6 +1,6 @@
 -- Law: document 01, 'Bytes and UTF-8': blanks, line breaks, the line's end; and texts compared. A text is the list of its
 -- bytes.
-use Rattle.std.specs.Prelude.{ℕ, zero, suc, ◌+◌, List, [], ◌∷◌, Bool, true, false, cond, not, ◌||◌, ◌&&◌, eqb}
+use Rattle.std.specs.Prelude.{ℕ, suc, ◌+◌, List, [], ◌∷◌, Bool, true, false, cond, not, ◌||◌, ◌&&◌, eqb}
 use Prim.Native.Char.{code as byte}
 use Rattle.text.specs.declared.bytes.Part.{Part}
 use Rattle.text.specs.declared.bytes.First.{First}

@@ -1,5 +1,5 @@
 -- Law: document 01, 'Bytes and UTF-8': trimming, over which bytes it drops.
-use Rattle.std.specs.Prelude.{ℕ, zero, suc, List, [], ◌∷◌, Bool, true, false, cond, ◌||◌, eqb}
+use Rattle.std.specs.Prelude.{ℕ, zero, suc, List, [], ◌∷◌, Bool, cond, ◌||◌, eqb}
 use Rattle.text.specs.Bytes.{is_blank, is_break, count_while}
 use Rattle.text.specs.declared.bytes.Part.{Part}
 use Rattle.text.specs.declared.trimming.Dropped.{Dropped}

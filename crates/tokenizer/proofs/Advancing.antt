@@ -1,8 +1,8 @@
 -- The step without the record of open indentations: what its test tells, and that of a fit state it is the step.
 use Prim.Native.Nat.{ℕ, ◌+◌, ◌^◌, ◌≤◌, ◌<◌}
-use mathlib.Core.Path.{◌≡◌, refl}
+use mathlib.Core.Path.{◌≡◌}
 use mathlib.Core.List.{List}
-use mathlib.Core.Bool.{Bool, true, false, ◌&&◌}
+use mathlib.Core.Bool.{true, false, ◌&&◌}
 use native.Mathlib.Omega.{arith}
 use lib.Dec.{leb, ltb}
 use lib.ListN.{length, drop, length-drop}
@@ -37,7 +37,6 @@ use Rattle.tokenizer.specs.declared.state.Held.{Held}
 use Rattle.tokenizer.specs.declared.state.Held.TheVariants.{Nothing, At}
 use Rattle.tokenizer.specs.declared.state.State.{State}
 use Rattle.tokenizer.specs.declared.front.Front.{Front}
-use Rattle.tokenizer.specs.declared.front.Advanced.{Advanced}
 use Rattle.tokenizer.proofs.Bounds.{plan-bounded}
 use Rattle.tokenizer.proofs.Fitness.{fitness, part-fit, inner-fit}
 use Rattle.tokenizer.proofs.Numbers.{plan-number, ruled-number}

@@ -1,6 +1,6 @@
 -- What the test for an unfit state tells, and what it takes to pass it.
 use Prim.Native.Nat.{ℕ, zero, suc, ◌+◌, ◌-◌, ◌≤◌, ◌<◌}
-use mathlib.Core.Path.{◌≡◌, refl, sym, ◌∙◌}
+use mathlib.Core.Path.{◌≡◌, refl, ◌∙◌}
 use mathlib.Core.List.{List}
 use mathlib.Core.Bool.{Bool, true, false, cond, ◌&&◌, and_comm, and-false}
 use native.Mathlib.Numerals.{add-one, sub-one}

@@ -7,7 +7,6 @@ use Rattle.tokenizer.specs.Step.{step_of, fresh}
 use Rattle.tokenizer.specs.declared.state.Answer.{Answer}
 use Rattle.tokenizer.specs.declared.state.Answer.TheVariants.{End, Token, Refused}
 use Rattle.tokenizer.specs.declared.state.State.{State}
-use Rattle.tokenizer.specs.declared.state.Step.{Step}
 
 unfoldable pub is_end : Answer → Bool
 is_end End = true

@@ -1,6 +1,6 @@
 -- Law: document 01, 'Tokenizer': the state, the step over it, and the numbers 12 and 15 of its 'Numbers by the place
 -- where they are checked'.
-use Rattle.std.specs.Prelude.{ℕ, zero, suc, ◌+◌, ◌-◌, max, List, [], ◌∷◌, Bool, true, false, cond, ◌&&◌, length, take, drop, get_or, set, replicate, leb, ltb}
+use Rattle.std.specs.Prelude.{ℕ, zero, suc, ◌+◌, ◌-◌, max, List, Bool, true, false, cond, ◌&&◌, length, take, drop, get_or, set, replicate, leb, ltb}
 use Rattle.text.specs.Bytes.{shifted_by}
 use Rattle.text.specs.Numbers.{max_document, max_open, too_long, unfit_state}
 use Rattle.text.specs.declared.bytes.Part.{Part}

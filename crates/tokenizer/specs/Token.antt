@@ -1,6 +1,6 @@
 -- Law: document 01, 'Look-up and listing': tokens in its numbers, kinds 1 to 10, each with its line and its parts; a
 -- refusal is 256 and its number, End 0. And a token's line and name, as 'What stays and what is written anew' has them.
-use Rattle.std.specs.Prelude.{ℕ, ◌+◌, List, [], ◌∷◌, ◌++◌, length, take, replicate, min}
+use Rattle.std.specs.Prelude.{ℕ, ◌+◌, List, ◌++◌, length, take, replicate, min}
 use Rattle.text.specs.Ascii.{ascii}
 use Rattle.text.specs.declared.bytes.Part.{Part}
 use Rattle.tokenizer.specs.declared.token.Token.{Token}

@@ -4,7 +4,7 @@ use Rattle.utf8.specs.Utf8.{utf8}
 use Rattle.text.specs.Numbers.{max_document, invalid_utf8, too_many_open}
 use Rattle.text.specs.declared.bytes.Part.{Part}
 use Rattle.tokenizer_scans.specs.Scans.{blanks}
-use Rattle.tokenizer.specs.Step.{bytes_of, step_of, fresh}
+use Rattle.tokenizer.specs.Step.{bytes_of, fresh}
 use Rattle.tokenizer.specs.Lists.{Reads, TokenList, tokens}
 use Rattle.tokenizer.specs.declared.token.Token.{Token}
 use Rattle.tokenizer.specs.declared.token.Token.TheVariants.{

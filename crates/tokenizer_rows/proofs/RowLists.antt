@@ -1,11 +1,11 @@
 -- The rows of a list of answers, one after the other.
-use Prim.Native.Nat.{ℕ, ◌*◌}
+use Prim.Native.Nat.{◌*◌}
 use mathlib.Core.Path.{◌≡◌, refl}
 use mathlib.Core.List.{List, [], ◌∷◌, ◌++◌}
 use native.Mathlib.Omega.{arith}
 use lib.ListN.{length}
 use Rattle.tokenizer.specs.Token.{Values}
-use Rattle.tokenizer_rows.specs.Rows.{row_of, rows_of}
+use Rattle.tokenizer_rows.specs.Rows.{rows_of}
 
 pub rows_append : (l m : List Values) → rows_of (l ++ m) ≡ rows_of l ++ rows_of m
 unfolding rows_of

@@ -1,7 +1,7 @@
 -- Steps of document 01's layouts as plans, computed from the rules: an edit of rule and code alike is refused here.
 use Prim.Native.Nat.{ℕ}
 use mathlib.Core.Path.{◌≡◌, refl}
-use mathlib.Core.List.{List, [], ◌∷◌}
+use mathlib.Core.List.{List, []}
 use mathlib.Core.Bool.{Bool, true, false}
 use Rattle.text.specs.Ascii.{ascii}
 use Rattle.text.specs.Bytes.{is_blank, is_break, break_size, count_while, starts_with, part}

@@ -28,7 +28,6 @@ use Rattle.tokenizer_rules.specs.declared.plan.Says.TheVariants.{
   MultilineValue,
   Refused,
 }
-use Rattle.tokenizer_rules.specs.declared.plan.Change.{Change}
 use Rattle.tokenizer_rules.specs.declared.plan.Change.TheVariants.{Keep, Open, Close, Hold}
 use Rattle.tokenizer_rules.specs.declared.plan.Plan.{Plan}
 

@@ -4,7 +4,7 @@ use Prim.Native.Nat.{ℕ}
 use Prim.Native.Char.{code as byte}
 use mathlib.Core.Path.{◌≡◌, refl}
 use mathlib.Core.List.{List, [], ◌∷◌}
-use mathlib.Core.Bool.{Bool, true, false}
+use mathlib.Core.Bool.{true, false}
 use Rattle.text.specs.Ascii.{ascii}
 use Rattle.text.specs.Bytes.{is_blank, is_break, count_while, starts_with}
 use Rattle.text.specs.Trimming.{dropped, kept_end, trimmed}
@@ -29,7 +29,7 @@ use Rattle.tokenizer_scans.specs.Scans.{
   line_count,
   lines_of,
 }
-use Rattle.tokenizer_scans.specs.declared.readers.Relation.TheVariants.{Equal, Deeper, Other}
+use Rattle.tokenizer_scans.specs.declared.readers.Relation.TheVariants.{Deeper, Other}
 use Rattle.tokenizer_scans.specs.declared.readers.Text.TheVariants.{Good, Bad}
 
 -- what computing a text's end unfolds

@@ -1,15 +1,15 @@
 -- The lines of a text by its breaks and by its pieces are the same: a byte that is no break changes neither count but for the
 -- first piece, which it makes no lone LF.
-use Prim.Native.Nat.{ℕ, zero, suc, ◌+◌}
+use Prim.Native.Nat.{ℕ, ◌+◌}
 use mathlib.Core.Path.{◌≡◌, refl, sym, ◌∙◌}
 use mathlib.Core.List.{List, [], ◌∷◌}
-use mathlib.Core.Bool.{Bool, true, false, cond, ◌&&◌, ◌||◌}
+use mathlib.Core.Bool.{Bool, true, false, cond}
 use native.Mathlib.Omega.{arith}
 use lib.Dec.{eqb}
 use borrow.Author.Tests.{eqb-true}
 use Rattle.text.specs.Bytes.{is_break}
 use Rattle.text.proofs.Cases.{by_bool}
-use Rattle.tokenizer_scans.specs.Scans.{breaks_after, breaks, is_lf, ends_in_cr, ends_in_break, line_count}
+use Rattle.tokenizer_scans.specs.Scans.{breaks_after, is_lf, ends_in_cr, ends_in_break, line_count}
 use Rattle.tokenizer_scans.specs.Claims.{on_first, pieces, piece_lines, LinesOfPieces}
 
 -- there is a first piece, and it has a byte

@@ -1,9 +1,9 @@
 -- Law: document 01, 'Tokenizer': the scans of its token readers (key, value, hint, multiline value), over the rest of a
 -- document from somewhere on.
-use Rattle.std.specs.Prelude.{ℕ, zero, suc, ◌+◌, List, [], ◌∷◌, Bool, true, false, cond, not, ◌&&◌, ◌||◌, length, take, drop, eqb}
+use Rattle.std.specs.Prelude.{ℕ, suc, ◌+◌, List, [], ◌∷◌, Bool, true, false, cond, not, ◌&&◌, ◌||◌, length, take, drop, eqb}
 use Prim.Native.Char.{code as byte}
 use Rattle.text.specs.Ascii.{ascii}
-use Rattle.text.specs.Bytes.{is_break, count_while, line_end, starts_with}
+use Rattle.text.specs.Bytes.{is_break, count_while, starts_with}
 use Rattle.text.specs.Trimming.{dropped, trimmed}
 use Rattle.utf8.specs.Utf8.{utf8}
 use Rattle.text.specs.declared.trimming.Dropped.{Dropped}

@@ -1,14 +1,14 @@
 -- What is stored in 137 words, and that a readable state has them.
-use Prim.Native.Nat.{ℕ, ◌≤◌, ◌<◌}
-use mathlib.Core.Path.{◌≡◌, sym, ap}
+use Prim.Native.Nat.{ℕ, ◌≤◌}
+use mathlib.Core.Path.{◌≡◌}
 use mathlib.Core.List.{List, ◌++◌}
-use mathlib.Core.Bool.{Bool, true, false, ◌&&◌}
+use mathlib.Core.Bool.{Bool, true, ◌&&◌}
 use lib.Dec.{leb}
 use lib.ListN.{length, drop}
-use borrow.Author.Tests.{lt-ltb, le-ltb, leb-true, le-leb}
+use borrow.Author.Tests.{leb-true, le-leb}
 use Rattle.text.proofs.Cases.{and_left}
 use Rattle.tokenizer.specs.declared.state.State.{State}
-use Rattle.tokenizer_words.specs.Words.{words_of, stored_in, state_in, readable}
+use Rattle.tokenizer_words.specs.Words.{words_of, stored_in, readable}
 
 -- the first of two tests, of which both hold
 pub enough : (n m : ℕ) (b : Bool) → (leb n m && b) ≡ true → n ≤ m

@@ -7,8 +7,8 @@ use mathlib.Core.Bool.{Bool, true, false, cond, false≢true}
 use native.Mathlib.Omega.{arith}
 use native.Mathlib.Nat.{sub-zero}
 use lib.Dec.{eqb, leb, ltb}
-use lib.ListN.{length, take, drop}
-use borrow.Author.Tests.{leb-true, ltb-true, ltb-false, ne_eqb, eqb-false}
+use lib.ListN.{take, drop}
+use borrow.Author.Tests.{leb-true, ltb-true, ltb-false, ne_eqb}
 use Rattle.text.specs.Bytes.{is_blank, is_break, count_while}
 use Rattle.text.specs.Trimming.{dropped, keep_more, kept_end, trimmed}
 use Rattle.utf8.specs.Utf8.{lead_of, on_lead, owes, utf8}

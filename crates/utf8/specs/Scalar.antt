@@ -1,6 +1,6 @@
 -- Law: the scalar values, of document 01, 'Unescaping', and their encoding by the arithmetic of Table 3-6 of the
 -- Unicode Standard. Nothing here rests on Table 3-7: proofs/Unicode shows that the two agree.
-use Rattle.std.specs.Prelude.{ℕ, ◌+◌, ◌/◌, ◌%◌, ◌≡◌, ◌↔◌, List, [], ◌∷◌, ◌++◌, Bool, true, false, cond, ◌||◌, ◌&&◌, ltb, leb, length, take}
+use Rattle.std.specs.Prelude.{ℕ, ◌+◌, ◌/◌, ◌%◌, ◌≡◌, ◌↔◌, List, [], ◌∷◌, ◌++◌, Bool, true, cond, ◌||◌, ◌&&◌, ltb, leb, length, take}
 use Rattle.utf8.specs.Utf8.{utf8}
 use Rattle.utf8.specs.declared.scalar.Encoded.{Encoded}
 

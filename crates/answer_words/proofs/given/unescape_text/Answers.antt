@@ -1,10 +1,9 @@
 -- `unescape_text` takes the branches of `given_text_of`; the five words go to the front.
 use mathlib.Core.Path.{◌≡◌, sym, ◌∙◌}
-use mathlib.Core.Bool.{true}
 use native.Mathlib.Omega.{arith}
 use lib.ListN.{length}
-use borrow.Author.Tests.{lt-leb, le-leb, not-false}
-use Rattle.answer_words.specs.Given.{is_kind, given_text_of}
+use borrow.Author.Tests.{lt-leb, le-leb}
+use Rattle.answer_words.specs.Given.{given_text_of}
 use Rattle.tokenizer_words.proofs.Pasting.{pasted-room, pasted-front}
 use Rattle.answer_words.proofs.given.unescape_text.Goals as goal
 
@@ -27,5 +26,5 @@ returns c =
       value = rw (e, f);
       out_after = rw (e, f) (rw c.style_of-reading.ensures at c.unescape_text-a.ensures.out_after);
       answer_after =
-        rw (e, f) (p ∙ rw (pasted-front, five, c.answer_words-w.ensures, c.unescape_text-a.ensures.value, c.style_of-reading.ensures));
+          rw (e, f) (p ∙ rw (pasted-front, five, c.answer_words-w.ensures, c.unescape_text-a.ensures.value, c.style_of-reading.ensures));
     }

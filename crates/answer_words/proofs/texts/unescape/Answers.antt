@@ -1,12 +1,11 @@
 -- `unescape` takes the branches of `text_of`; the five words go to the front.
 use mathlib.Core.Path.{◌≡◌, refl, sym, ◌∙◌}
-use mathlib.Core.Bool.{true}
 use native.Mathlib.Omega.{arith}
 use lib.ListN.{length}
-use borrow.Author.Tests.{lt-leb, le-leb, not-false}
+use borrow.Author.Tests.{lt-leb, le-leb}
 use Rattle.unescape.specs.declared.Answer.{Answer}
 use Rattle.unescape.specs.declared.Answer.TheVariants.{Plain, Written, Refused}
-use Rattle.answer_words.specs.Texts.{answer_words, has_answer, text_of}
+use Rattle.answer_words.specs.Texts.{answer_words, text_of}
 use Rattle.tokenizer_words.proofs.Pasting.{pasted-room, pasted-front}
 use Rattle.answer_words.proofs.texts.unescape.Goals as goal
 
@@ -34,5 +33,5 @@ returns c =
       value = rw (e, f);
       out_after = rw (e, f) (rw c.token_in-t.ensures at c.unescape-a.ensures.out_after);
       answer_after =
-        rw (e, f) (p ∙ rw (pasted-front, c.answer_words-w.ensures, c.unescape-a.ensures.value, c.token_in-t.ensures, answer-5));
+          rw (e, f) (p ∙ rw (pasted-front, c.answer_words-w.ensures, c.unescape-a.ensures.value, c.token_in-t.ensures, answer-5));
     }

@@ -35,5 +35,5 @@ returns c =
     record {
       value = rw (r, f);
       dst_after =
-        c.copy_parser.ensures ∙ restored-parser _ _ r c.if-dst-lt278.false ∙ sym (stored-278 _ _ c.if-dst-lt278.false);
+          c.copy_parser.ensures ∙ restored-parser _ _ r c.if-dst-lt278.false ∙ sym (stored-278 _ _ c.if-dst-lt278.false);
     }

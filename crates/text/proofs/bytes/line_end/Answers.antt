@@ -5,7 +5,6 @@ use mathlib.Core.Bool.{not}
 use Rattle.text.proofs.Scan.{more, stop, end as none_left}
 use Rattle.text.proofs.Skipped.{line}
 use mathlib.Core.Path.{sym, ◌∙◌}
-use Prim.Native.Nat.{◌-◌}
 use Rattle.text.proofs.bytes.line_end.Goals as goal
 
 pub loop-end-init : goal.loop-end-init

@@ -3,7 +3,6 @@ use Rattle.text.proofs.Prefix.{short, same, differs, all}
 use Rattle.text.proofs.Skipped.{common}
 use native.Mathlib.Omega.{arith}
 use mathlib.Core.Path.{sym, ◌∙◌}
-use Prim.Native.Nat.{◌-◌}
 use Rattle.text.proofs.bytes.starts_with.Goals as goal
 
 pub returns-then-s-p : goal.returns-then-s-p

@@ -2,7 +2,6 @@ use Rattle.std.proofs.Common.{rules}
 use Rattle.text.specs.Trimming.{dropped}
 use Rattle.text.proofs.Scan.{more, stop, end}
 use mathlib.Core.Path.{sym, ◌∙◌}
-use Prim.Native.Nat.{◌-◌}
 use Rattle.text.proofs.trimming.leading_past.Goals as goal
 
 pub loop-i-init : goal.loop-i-init

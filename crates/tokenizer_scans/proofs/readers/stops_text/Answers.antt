@@ -1,5 +1,4 @@
 -- `stops_text` is its definition: the tests of the code are the tests of `stops`.
-use Rattle.std.proofs.Common.{rules}
 use mathlib.Core.Path.{sym, ◌∙◌}
 use mathlib.Core.Logic.{⊎_elim}
 use borrow.Author.Tests.{eq-eqb, ne_eqb}

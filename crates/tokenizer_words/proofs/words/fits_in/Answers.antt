@@ -1,6 +1,5 @@
-use Prim.Native.Nat.{◌-◌, ◌+◌, ◌≤◌, ◌<◌}
+use Prim.Native.Nat.{◌+◌, ◌≤◌, ◌<◌}
 use mathlib.Core.Path.{◌≡◌, refl, sym, ap, ◌∙◌}
-use mathlib.Core.Bool.{true}
 use native.Mathlib.Omega.{arith}
 use Rattle.tokenizer.specs.Step.{fit_part, fit_open}
 use Rattle.tokenizer.proofs.Fitness.{open-decides, open_more, place-past, line-zero, line-past, held-unfit, too-deep}

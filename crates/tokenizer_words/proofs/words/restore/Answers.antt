@@ -27,5 +27,5 @@ returns c =
     record {
       value = sym e;
       dst_after =
-        c.copy_state.ensures ∙ restored _ _ (and_left (readable _) _ e) c.if-dst-lt137.false ∙ sym (stored-137 _ _ c.if-dst-lt137.false);
+          c.copy_state.ensures ∙ restored _ _ (and_left (readable _) _ e) c.if-dst-lt137.false ∙ sym (stored-137 _ _ c.if-dst-lt137.false);
     }

@@ -2,7 +2,7 @@
 use Rattle.utf8.proofs.Scalars.{scalar-le}
 use native.Mathlib.Omega.{arith}
 use mathlib.Core.Path.{sym, ◌∙◌}
-use Rattle.utf8.specs.Scalar.{encoded_of, encoding_of, encoding, is_scalar}
+use Rattle.utf8.specs.Scalar.{encoded_of, encoding_of, encoding}
 use borrow.Author.Tests.{lt-ltb, le-ltb}
 use Rattle.utf8.proofs.scalar.encode.Goals as goal
 

@@ -1,6 +1,5 @@
 use Rattle.utf8.proofs.Ranges.{next, missing, enough, below, above, inside}
 use mathlib.Core.Path.{refl, sym, ◌∙◌}
-use Prim.Native.Nat.{◌-◌}
 use Rattle.utf8.proofs.utf8.follows.Goals as goal
 
 pub loop-left-init : goal.loop-left-init

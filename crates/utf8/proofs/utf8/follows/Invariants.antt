@@ -3,7 +3,6 @@
 use Rattle.utf8.specs.Utf8.{followed}
 use lib.ListN.{drop}
 use mathlib.Core.Path.{◌≡◌}
-use Prim.Native.Nat.{◌-◌}
 use Rattle.utf8.proofs.utf8.follows.Given as goal
 
 abbrev pub invariant-loop-left : goal.invariant-loop-left

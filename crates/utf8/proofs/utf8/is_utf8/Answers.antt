@@ -6,7 +6,6 @@ use Rattle.utf8.proofs.Skipped.{ascii}
 use Rattle.utf8.specs.Utf8.{utf8, owes}
 use native.Mathlib.Omega.{arith}
 use mathlib.Core.Path.{sym, ◌∙◌}
-use Prim.Native.Nat.{◌-◌}
 use Rattle.utf8.proofs.utf8.is_utf8.Goals as goal
 
 pub loop-i-init : goal.loop-i-init

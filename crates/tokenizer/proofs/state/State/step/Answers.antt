@@ -8,7 +8,7 @@ use lib.Dec.{eqb}
 use lib.ListN.{get_or, drop, length-drop}
 use Rattle.text.proofs.Front.{from}
 use Rattle.tokenizer_rules.specs.Plan.{plan_at}
-use Rattle.tokenizer.specs.Step.{no_part, bytes_of, inner_of, plan_with, step_with, step_rule}
+use Rattle.tokenizer.specs.Step.{no_part, bytes_of, plan_with, step_with, step_rule}
 use Rattle.tokenizer.specs.declared.state.Step.{Step}
 use Rattle.tokenizer.proofs.Bounds.{room}
 use Rattle.tokenizer.proofs.Fitness.{fitness, inner-fit, inner_last}
