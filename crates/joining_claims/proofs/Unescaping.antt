@@ -36,7 +36,7 @@ use Rattle.unescape_pieces.specs.declared.start.Style.{Style}
 use Rattle.unescape_pieces.specs.declared.start.Style.TheVariants.{AsIs, Entry, Block}
 use Rattle.unescape_pieces.proofs.Proper.{Proper, meaning-proper}
 use Rattle.unescape.specs.Unescape.{Unescaped, delivered, unescape_of}
-use Rattle.unescape.specs.declared.Answer.TheVariants.{Plain, Refused}
+use Rattle.unescape.specs.declared.Answer.TheVariants.{Plain}
 use Rattle.unescape_claims.proofs.Readable.{none-text, texts-fit, texts-read}
 use Rattle.joining_claims.specs.Raising.{raise_token}
 use Rattle.joining_claims.specs.Alike.{Same, Alike}

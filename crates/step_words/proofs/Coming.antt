@@ -1,5 +1,5 @@
 -- What comes: the words say what was kept, or the tokenizer's next; and it leads to the tokenizer's state after it.
-use Prim.Native.Nat.{ℕ, zero, suc, ◌+◌, ◌*◌, ◌≤◌, ◌<◌}
+use Prim.Native.Nat.{ℕ, zero, suc, ◌+◌, ◌*◌, ◌≤◌}
 use mathlib.Core.Path.{◌≡◌, refl, sym, ap, ◌∙◌}
 use mathlib.Core.List.{List, ◌++◌}
 use mathlib.Core.Bool.{true}
@@ -28,7 +28,6 @@ use Rattle.parser_rules.specs.declared.ruling.Innermost.TheVariants.{Of}
 use Rattle.parser.specs.Step.{no_sort, innermost_of, came_of}
 use Rattle.parser.specs.declared.state.Section.{Section}
 use Rattle.parser.proofs.Valued.{carries-none}
-use Rattle.tokenizer_rows.specs.Rows.{row_of}
 use Rattle.tokenizer_words.specs.Words.{words_of, state_in}
 use Rattle.tokenizer_words.proofs.Standing.{slots-64}
 use Rattle.tokenizer_words.proofs.Slotted.{step-slots}

@@ -14,7 +14,6 @@ use Rattle.tokenizer.specs.Step.{fit}
 use Rattle.tokenizer.specs.Front.{said_by}
 use Rattle.tokenizer.specs.declared.state.Answer.{Answer as Came}
 use Rattle.tokenizer.specs.declared.state.State.{State as Tokenizer}
-use Rattle.tokenizer.specs.declared.front.Said.{Said}
 use Rattle.parser_rules.specs.Ruling.{values_of, ruling_of}
 use Rattle.parser_rules.specs.Judging.{sort_number, opened_line, awaited_number, awaited_line, judged_by}
 use Rattle.parser_rules.specs.declared.ruling.Answer.{Answer}
@@ -28,7 +27,7 @@ use Rattle.parser.proofs.Steps.{goes_on}
 use Rattle.tokenizer_rows.proofs.Back.{kinds}
 use Rattle.tokenizer_words.specs.Words.{words_of, state_in}
 use Rattle.tokenizer_words.proofs.Standing.{slots-64}
-use Rattle.parser_words.specs.ParserWords.{kept_words, middle_words, parser_words, parser_in}
+use Rattle.parser_words.specs.ParserWords.{middle_words, parser_words, parser_in}
 use Rattle.parser_words.specs.Stops.{is_stop}
 use Rattle.front_words.specs.Fronts.{committed}
 use Rattle.step_words.specs.Outcomes.{outcome_by, outcome_in}

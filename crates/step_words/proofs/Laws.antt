@@ -1,13 +1,13 @@
 -- THE LAW. Of the words of a fit state, the step in words is the tokenizer's step, or the parser's.
-use Prim.Native.Nat.{ℕ, ◌≤◌, ◌<◌}
+use Prim.Native.Nat.{ℕ, ◌≤◌}
 use mathlib.Core.Path.{◌≡◌, refl, sym, ap, subst, ◌∙◌}
 use mathlib.Core.List.{List, [], ◌++◌, append-nil}
-use mathlib.Core.Bool.{Bool, true, false, cond}
+use mathlib.Core.Bool.{true, false, cond}
 use native.Mathlib.Omega.{arith}
-use lib.Dec.{eqb, ltb}
-use lib.ListN.{length, drop, get_or}
+use lib.Dec.{eqb}
+use lib.ListN.{length, drop}
 use lib.Seq.{drop-length}
-use borrow.Author.Tests.{ne_eqb, le-leb, ltb-true, ltb-false}
+use borrow.Author.Tests.{ne_eqb, le-leb}
 use Rattle.text.proofs.Cases.{by_bool, clash}
 use Rattle.tokenizer.specs.Token.{bare}
 use Rattle.tokenizer.specs.Token.{values_of as cameValues}
@@ -29,13 +29,13 @@ use Rattle.parser_rules.specs.declared.ruling.Ruling.TheVariants.{Says, End, Unf
 use Rattle.parser.specs.Step.{innermost_of, full_of, on_ruling, step_with, came_of, step_kept, step_of, fresh}
 use Rattle.parser.specs.declared.state.State.{State}
 use Rattle.parser.specs.declared.state.Step.{Step}
-use Rattle.parser.proofs.Steps.{over, ended, goes_on}
-use Rattle.tokenizer_words.specs.Words.{words_of, state_in}
+use Rattle.parser.proofs.Steps.{ended, goes_on}
+use Rattle.tokenizer_words.specs.Words.{state_in}
 use Rattle.parser_words.specs.ParserWords.{parser_words, parser_in, fresh_parser_in}
 use Rattle.parser_words.specs.Stops.{is_stop}
 use Rattle.front_words.specs.Fronts.{committed}
 use Rattle.step_words.specs.Outcomes.{outcome_by}
-use Rattle.step_words.specs.Stepping.{refused_in, kept_number, came_in, judged_in, outcome_for, left_in, stops_at, Gone, stays, gone_by, step_in}
+use Rattle.step_words.specs.Stepping.{refused_in, kept_number, came_in, judged_in, outcome_for, left_in, stops_at, stays, gone_by, step_in}
 use Rattle.step_words.specs.Claims.{Whole, Reading, FreshReads, TokenizerSteps, ParserSteps}
 use Rattle.step_words.specs.declared.outcome.Outcome.{Outcome}
 use Rattle.step_words.specs.declared.step.Layer.TheVariants.{Tokenizer as Tokens, Parser as Parses}
@@ -43,7 +43,7 @@ use Rattle.front_words.proofs.Fronts.{step-committed, end-number}
 use Rattle.step_words.proofs.Rulings.{GoesOn, Fair, ruling-goes-on}
 use Rattle.step_words.proofs.Going.{stop_is, answer-is, words_are}
 use Rattle.step_words.proofs.Branches.{refused, goes, stopped, went_on}
-use Rattle.step_words.proofs.Whole.{fresh-whole, step-whole, stood-state, stood-tokenizer, stood-rest, stood-words, stood-length}
+use Rattle.step_words.proofs.Whole.{fresh-whole, stood-state, stood-tokenizer, stood-rest, stood-words, stood-length}
 
 -- the tokenizer's, by the number that came
 module _ (m : Advanced) (w : List ℕ) where

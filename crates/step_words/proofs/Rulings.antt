@@ -1,7 +1,7 @@
 -- What a ruling says does not stop: it is a token, a refusal by 4 to 7, or the tokenizer's refusal, which is not 15.
 use Prim.Native.Nat.{ℕ}
 use mathlib.Core.Path.{◌≡◌, refl}
-use mathlib.Core.Bool.{Bool, true, false}
+use mathlib.Core.Bool.{Bool, false}
 use lib.Dec.{eqb}
 use Rattle.text.proofs.Cases.{on-cond}
 use Rattle.tokenizer.specs.declared.token.Token.{Token}

@@ -24,7 +24,7 @@ does : (layer : Layer) (d w : List ℕ) {m : Advanced} {v : Judged} {o : Outcome
     → step_in layer d w ≡ gone_by layer m o w
 does layer d w {m = m} {o = o} e came judged left =
     let leaves : o ≡ outcome_for layer m.said w =
-        left ∙ ap (λ v. outcome_by v m.said (get_or w 138 0) (get_or w 139 0) (opened_at (get_or w 147 0) w)) judged in
+    left ∙ ap (λ v. outcome_by v m.said (get_or w 138 0) (get_or w 139 0) (opened_at (get_or w 147 0) w)) judged in
     goes layer d w e
     ∙ ap (λ (x : Advanced). gone_by layer x (outcome_for layer x.said w) w) (sym came)
     ∙ ap (λ x. gone_by layer m x w) (sym leaves)
@@ -34,8 +34,8 @@ unfolding step_in stops_at
 returns-then-is_refused c =
     let e = refused c.args.layer c.args.doc.now c.args.w.now (sym c.is_refused.ensures ∙ c.if-is_refused.true) in
     let both =
-        subst (λ g. Does g 0 c.args.w.now c.args.at c.args.rows.now c.args.rows.now) (sym e)
-        (stops-does 0 c.args.w.now c.args.at c.args.rows.now refl) in
+    subst (λ g. Does g 0 c.args.w.now c.args.at c.args.rows.now c.args.rows.now) (sym e)
+    (stops-does 0 c.args.w.now c.args.at c.args.rows.now refl) in
     record { value = both.0; w_after = both.1.0; rows_after = both.1.1 }
 
 pub outcome_of-o-requires : goal.outcome_of-o-requires
@@ -52,8 +52,8 @@ returns-then-stops c =
     let n = c.outcome_of-o.result.answer.number in
     let e = sym c.stops.ensures ∙ c.if-stops.true in
     let d =
-        does c.args.layer c.args.doc.now w (sym c.is_refused.ensures ∙ c.if-is_refused.false) c.came-m.ensures c.judged-v.ensures
-        c.outcome_of-o.ensures in
+    does c.args.layer c.args.doc.now w (sym c.is_refused.ensures ∙ c.if-is_refused.false) c.came-m.ensures c.judged-v.ensures
+    c.outcome_of-o.ensures in
     let both = subst (λ g. Does g n w c.args.at rows rows) (sym (d ∙ stopped c.args.layer _ _ w e)) (stops-does n w c.args.at rows e) in
     record { value = both.0; w_after = both.1.0; rows_after = both.1.1 }
 
@@ -71,8 +71,8 @@ returns c =
     let o = c.outcome_of-o.result in
     let e = sym c.stops.ensures ∙ c.if-stops.false in
     let d =
-        does layer c.args.doc.now w (sym c.is_refused.ensures ∙ c.if-is_refused.false) c.came-m.ensures c.judged-v.ensures
-        c.outcome_of-o.ensures in
+    does layer c.args.doc.now w (sym c.is_refused.ensures ∙ c.if-is_refused.false) c.came-m.ensures c.judged-v.ensures
+    c.outcome_of-o.ensures in
     let g : Gone = record { said = o.answer; words = left_in layer o (get_or w 147 0) (committed m w) } in
     let q : g ≡ step_in layer c.args.doc.now w = sym (d ∙ went_on layer m o w e) in
     let r = goes-does g c.args.at c.args.rows.now e in
@@ -80,8 +80,8 @@ returns c =
       value = ap (λ (x : Gone). x.said.number) q;
       w_after = c.leave.ensures ∙ ap (left_in layer o (get_or w 147 0)) c.commit.ensures ∙ ap (λ (x : Gone). x.words) q;
       rows_after =
-        c.paste.ensures
-            ∙ ap (λ x. pasted_in x c.args.at c.args.rows.now) c.said_row-row.ensures
-            ∙ r.1.1
-            ∙ ap (λ (x : Gone). row_in x.said c.args.at c.args.rows.now) q;
+          c.paste.ensures
+          ∙ ap (λ x. pasted_in x c.args.at c.args.rows.now) c.said_row-row.ensures
+          ∙ r.1.1
+          ∙ ap (λ (x : Gone). row_in x.said c.args.at c.args.rows.now) q;
     }
