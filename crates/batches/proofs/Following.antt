@@ -9,9 +9,9 @@ use lib.Seq.{drop_at}
 use borrow.Author.Tests.{ne_eqb}
 use Rattle.text.proofs.Cases.{by_bool, on-cond}
 use Rattle.tokenizer.specs.Token.{Values}
-use Rattle.tokenizer.specs.Token.{values_of as cameValues}
+use Rattle.tokenizer.specs.Token.{values_of as came_values}
 use Rattle.tokenizer.specs.Step.{fit}
-use Rattle.tokenizer.specs.Step.{step_of as tokenStep}
+use Rattle.tokenizer.specs.Step.{step_of as token_step}
 use Rattle.tokenizer.specs.Front.{said_by}
 use Rattle.tokenizer.specs.Lists.{is_end}
 use Rattle.tokenizer.specs.declared.state.State.{State as Tokenizer}
@@ -68,7 +68,7 @@ module _ (d r : List ℕ) (l : length d ≤ 16777216) where
   unfolding stops_at
   token-follows s p =
       let w = words_of s ++ r in
-      let t = tokenStep d s in
+      let t = token_step d s in
       let b : state_in w ≡ s = state-back s r p.0 in
       let n = words-137 s p.0 in
       let c : drop 137 w ≡ r = drop_at (words_of s) r 137 n in
@@ -76,7 +76,7 @@ module _ (d r : List ℕ) (l : length d ≤ 16777216) where
       record {
         stops = by_bool (is_end t.answer)
             (λ e. rw e (rw (rw e at q)))
-            (λ e. rw e (rw (rw e at q) (rw (end-number t.answer ∙ e, ne_eqb (cameValues t.answer).number 271 (λ z. omega (arith, step-number d s l p.1))))));
+            (λ e. rw e (rw (rw e at q) (rw (end-number t.answer ∙ e, ne_eqb (came_values t.answer).number 271 (λ z. omega (arith, step-number d s l p.1))))));
         says = λ e. ap (λ (g : Gone). values_by g.said) (rw e at q);
         next = λ e. ap (λ (g : Gone). g.words) (rw e at q);
         after = (step-slots d s ∙ p.0, step-fit d s l p.1);

@@ -3,9 +3,9 @@
 use Rattle.std.specs.Prelude.{ℕ, zero, suc, ◌+◌, ◌/◌, ◌^◌, List, [], ◌∷◌, ◌++◌, Bool, cond, not, ◌&&◌, ltb, length, drop}
 use Rattle.text.specs.Numbers.{max_document, too_long, unfit_state}
 use Rattle.tokenizer.specs.Token.{Values}
-use Rattle.tokenizer.specs.Token.{values_of as cameValues}
+use Rattle.tokenizer.specs.Token.{values_of as came_values}
 use Rattle.tokenizer.specs.Step.{fit}
-use Rattle.tokenizer.specs.Step.{step_of as tokenStep}
+use Rattle.tokenizer.specs.Step.{step_of as token_step}
 use Rattle.tokenizer.specs.Lists.{is_end}
 use Rattle.tokenizer.specs.declared.state.State.{State as Tokenizer}
 use Rattle.parser_rules.specs.Ruling.{values_of}
@@ -58,9 +58,9 @@ batch_by d fits b w rows = cond (ltb max_document (length d)) (refused_batch too
 -- the tokenizer's steps stop at End
 abbrev pub tokenizing : List ℕ → Steps Tokenizer
 tokenizing d = record {
-  says = λ s. cameValues (tokenStep d s).answer;
-  next = λ s. (tokenStep d s).state;
-  stops = λ s. is_end (tokenStep d s).answer;
+  says = λ s. came_values (token_step d s).answer;
+  next = λ s. (token_step d s).state;
+  stops = λ s. is_end (token_step d s).answer;
 }
 
 -- as many of the tokenizer's steps as there is room for rows

@@ -16,7 +16,7 @@ use Rattle.tokenizer.proofs.Examples.{rules}
 use Rattle.parser.specs.Lists.{parse}
 use Rattle.parser_rules.specs.declared.ruling.Answer.{Answer as Said}
 use Rattle.parser_rules.specs.declared.ruling.Answer.TheVariants.{Token as said, Refused as refuses}
-use Rattle.parser.proofs.Examples.{rules as parseRules}
+use Rattle.parser.proofs.Examples.{rules as parse_rules}
 use Rattle.joining_claims.specs.Raising.{raise_token, raise, raised}
 use Rattle.joining_claims.specs.Tokens.{Closed, top_level}
 
@@ -75,5 +75,5 @@ cr-lf = (refl, (refl, refl, λ e. let z : ◌≡◌ {A = ℕ} 0 1 = cc in omega 
 pub no-entry : (parse (ascii "a\n") ≡ said (MapKey 1 (part 0 1)) 0 ∷ said (Newline 1) 0 ∷ said (NoValue 1) 0 ∷ [])
     × (parse (ascii "a\n" ++ 0xFF ∷ []) ≡ said (MapKey 1 (part 0 1)) 0 ∷ said (Newline 1) 0 ∷ refuses 1 2 ∷ [])
     × ((l : List Said) → parse (ascii "a\n" ++ 0xFF ∷ []) ≡ parse (ascii "a\n") ++ l → ⊥)
-unfolding parseRules
+unfolding parse_rules
 no-entry = (refl, refl, λ l e. let z : ◌≡◌ {A = ℕ} 0 1 = cc in omega arith)

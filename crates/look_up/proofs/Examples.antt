@@ -5,16 +5,16 @@ use mathlib.Core.Path.{◌≡◌, refl}
 use mathlib.Core.List.{List, []}
 use Rattle.text.specs.Ascii.{ascii}
 use Rattle.text.specs.Bytes.{part}
-use Rattle.token_text.proofs.Examples.{rules as textRules}
+use Rattle.token_text.proofs.Examples.{rules as text_rules}
 use Rattle.parser.specs.Lists.{top_entries}
-use Rattle.parser.proofs.Examples.{rules as parserRules}
+use Rattle.parser.proofs.Examples.{rules as parsing_rules}
 use Rattle.look_up.specs.Entries.{keys_of, refusal_in, extent, entries_of, first_named, look_up}
 use Rattle.look_up.specs.declared.search.Found.{Found}
 use Rattle.look_up.specs.declared.search.Found.TheVariants.{Nothing, At, Refused}
 
 -- what computing a look-up unfolds
 unfoldable rules : List ℕ → List ℕ → Found
-unfolding parserRules textRules top_entries keys_of refusal_in extent entries_of first_named look_up
+unfolding parser_rules text_rules top_entries keys_of refusal_in extent entries_of first_named look_up
 rules d w = look_up d w
 
 -- an empty document has no `a`

@@ -7,11 +7,11 @@ use mathlib.Core.Bool.{false}
 use lib.ListN.{get_or, replicate}
 use Rattle.text.specs.Ascii.{ascii}
 use Rattle.tokenizer.specs.Step.{fit, fit_open}
-use Rattle.tokenizer.specs.Step.{fresh as freshTokenizer}
+use Rattle.tokenizer.specs.Step.{fresh as fresh_tokenizer}
 use Rattle.tokenizer.specs.declared.token.Token.{Token as Tokened}
 use Rattle.tokenizer.specs.declared.token.Token.TheVariants as token
 use Rattle.text.specs.Bytes.{part}
-use Rattle.tokenizer.proofs.Examples.{rules as tokenRules}
+use Rattle.tokenizer.proofs.Examples.{rules as token_rules}
 use Rattle.parser_rules.specs.Ruling.{on_entry, on_outdent, on_indent, settled, after_entry, after_hint, on_token, on_end, ruling_of}
 use Rattle.parser.specs.Step.{no_sort, unsorted, innermost_of, sections_after, count_after, after_verdict, step_with, step_kept, step_of}
 use Rattle.parser.specs.Lists.{feed, parsed, parse}
@@ -27,7 +27,7 @@ use Rattle.parser_rules.specs.declared.ruling.Kept.TheVariants as kept
 
 -- what computing a parsing unfolds
 unfoldable pub rules : List ℕ → List Answer
-unfolding tokenRules on_entry on_outdent on_indent settled after_entry after_hint on_token on_end ruling_of feed parsed parse
+unfolding token_rules on_entry on_outdent on_indent settled after_entry after_hint on_token on_end ruling_of feed parsed parse
 rules d = parse d
 
 -- empty: no answers
@@ -82,7 +82,7 @@ nested = refl
 
 abbrev keeping : Awaited → Kept → State
 keeping a k = record {
-  tokenizer = freshTokenizer;
+  tokenizer = fresh_tokenizer;
   kept = k;
   awaited = a;
   refused = false;
@@ -92,7 +92,7 @@ keeping a k = record {
 
 -- what computing a step unfolds
 unfoldable stepped : Awaited → Tokened → Step
-unfolding rules freshTokenizer fit fit_open innermost_of sections_after count_after after_verdict step_with step_kept step_of
+unfolding rules fresh_tokenizer fit fit_open innermost_of sections_after count_after after_verdict step_with step_kept step_of
 stepped a t = step_of [] (keeping a (kept.Token t))
 
 -- an Outdent carries that line

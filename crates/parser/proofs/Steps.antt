@@ -5,7 +5,7 @@ use mathlib.Core.List.{List}
 use mathlib.Core.Bool.{true, false}
 use lib.ListN.{length}
 use borrow.Author.Tests.{lt-ltb, le-ltb}
-use Rattle.tokenizer.specs.Token.{values_of as tokenizerValues}
+use Rattle.tokenizer.specs.Token.{values_of as tokenizer_values}
 use Rattle.tokenizer.specs.Step.{fit}
 use Rattle.tokenizer.specs.declared.state.Step.{Step as TokenStep}
 use Rattle.tokenizer.proofs.Valued.{values-injective}
@@ -38,5 +38,5 @@ pub promised : {x y : Step} → x ≡ y → (values_of x.answer ≡ values_of y.
 promised e = (ap (λ (z : Step). values_of z.answer) e, ap (λ (z : Step). z.state) e)
 
 -- the tokenizer's promise is of the very step
-pub equal-steps : (x y : TokenStep) → tokenizerValues x.answer ≡ tokenizerValues y.answer → x.state ≡ y.state → x ≡ y
+pub equal-steps : (x y : TokenStep) → tokenizer_values x.answer ≡ tokenizer_values y.answer → x.state ≡ y.state → x ≡ y
 equal-steps x y p q = let e = values-injective x.answer y.answer p in λ i. record { answer = e i; state = q i }

@@ -3,7 +3,7 @@
 use Prim.Native.Nat.{ℕ}
 use mathlib.Core.Path.{◌≡◌, refl, sym, ap, ◌∙◌}
 use Rattle.tokenizer.specs.Token.{token_values}
-use Rattle.tokenizer.specs.Token.{values_of as cameValues}
+use Rattle.tokenizer.specs.Token.{values_of as came_values}
 use Rattle.tokenizer.specs.declared.token.Token.{Token}
 use Rattle.tokenizer.specs.declared.token.Token.TheVariants as token
 use Rattle.tokenizer.specs.declared.state.Answer.{Answer as Came}
@@ -45,8 +45,8 @@ carries-none (token.MultilineHint l p) = refl
 carries-none (token.MultilineValue l i p) = refl
 carries-none (token.NoValue l) = refl
 
-same-values : (a : Answer) → opening 0 (values_of a) ≡ cameValues (came_from a)
-unfolding values_of cameValues
+same-values : (a : Answer) → opening 0 (values_of a) ≡ came_values (came_from a)
+unfolding values_of came_values
 same-values answer.End = refl
 same-values (answer.Token t o) = carries-none t
 same-values (answer.Refused n l) = refl

@@ -3,8 +3,8 @@
 use Rattle.std.specs.Prelude.{ℕ, zero, suc, ◌+◌, ◌-◌, ◌≤◌, ◌<◌, List, Bool, false, cond, leb, ltb, length, get_or, set, replicate}
 use Rattle.text.specs.Numbers.{max_document, max_open, too_long, unfit_state}
 use Rattle.tokenizer.specs.Step.{fit}
-use Rattle.tokenizer.specs.Step.{step_of as tokenStep}
-use Rattle.tokenizer.specs.Step.{fresh as freshTokenizer}
+use Rattle.tokenizer.specs.Step.{step_of as token_step}
+use Rattle.tokenizer.specs.Step.{fresh as fresh_tokenizer}
 use Rattle.tokenizer.specs.declared.state.Answer.{Answer as Came}
 use Rattle.tokenizer.specs.declared.state.Answer.TheVariants as came
 use Rattle.tokenizer.specs.declared.state.State.{State as Tokenizer}
@@ -92,7 +92,7 @@ step_with s c t = on_ruling (ruling_of s.awaited (innermost_of s.sections s.coun
 
 -- what was kept comes again, else the tokenizer's next answer
 abbrev pub came_of : List ℕ → Tokenizer → Kept → TokenStep
-came_of d t kept.Nothing = tokenStep d t
+came_of d t kept.Nothing = token_step d t
 came_of d t kept.End = record { answer = came.End; state = t }
 came_of d t (kept.Token x) = record { answer = came.Token x; state = t }
 
@@ -109,7 +109,7 @@ step_of d s =
 -- the fresh state: the top level is a section of no sort yet
 unfoldable pub fresh : State
 fresh = record {
-  tokenizer = freshTokenizer;
+  tokenizer = fresh_tokenizer;
   kept = kept.Nothing;
   awaited = awaited.Nothing;
   refused = false;

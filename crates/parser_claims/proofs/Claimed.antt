@@ -10,7 +10,7 @@ use lib.ListN.{length}
 use borrow.Author.Tests.{ltb-true, ltb-false, lt-ltb, le-ltb}
 use Rattle.text.proofs.Cases.{by_bool}
 use Rattle.tokenizer.specs.Lists.{tokens}
-use Rattle.tokenizer.specs.Step.{fresh as freshTokenizer}
+use Rattle.tokenizer.specs.Step.{fresh as fresh_tokenizer}
 use Rattle.tokenizer_claims.proofs.Sound.{fresh-sound}
 use Rattle.tokenizer_claims.proofs.Claimed.{ends as reading-ends}
 use Rattle.parser.specs.Step.{fresh}
@@ -40,8 +40,8 @@ parses-one {d} (says {l = l} q f r) (says {u = v} {l = m} q' f' r') =
     let rest : l ≡ m = parses-one r (subst (λ x. Parses d x m v) (ap (λ x. x.state) same) r') in
     cc (ap (λ x. x.answer) same)
 
-pub fresh-tied : (d : List ℕ) → Tied d freshTokenizer fresh_stand
-unfolding freshTokenizer
+pub fresh-tied : (d : List ℕ) → Tied d fresh_tokenizer fresh_stand
+unfolding fresh_tokenizer
 fresh-tied d = record {
   value = λ x. false≢true x.mark;
   multiline = false≢true;
@@ -49,8 +49,8 @@ fresh-tied d = record {
   sections = refl;
 }
 
-fresh-room : (d : List ℕ) → room d freshTokenizer ≤ 2 * length d
-unfolding room freshTokenizer
+fresh-room : (d : List ℕ) → room d fresh_tokenizer ≤ 2 * length d
+unfolding room fresh_tokenizer
 fresh-room d = omega arith
 
 module _ (d : List ℕ) (h : length d ≤ 16777216) where
@@ -58,7 +58,7 @@ module _ (d : List ℕ) (h : length d ≤ 16777216) where
   unfolding parse
   parse-within = rw (le-ltb 16777216 (length d) h)
 
-  fresh-comes : Comes d fresh (parse d) (room d freshTokenizer)
+  fresh-comes : Comes d fresh (parse d) (room d fresh_tokenizer)
   unfolding fresh
   fresh-comes =
       rw parse-within

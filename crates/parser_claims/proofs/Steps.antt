@@ -7,7 +7,7 @@ use mathlib.Core.Bool.{true, false, cond}
 use native.Mathlib.Omega.{arith}
 use lib.ListN.{length}
 use borrow.Author.Tests.{le-ltb, lt-leb}
-use Rattle.tokenizer.specs.Step.{step_of as tokenStep}
+use Rattle.tokenizer.specs.Step.{step_of as token_step}
 use Rattle.tokenizer.specs.Lists.{Reads, ends, says}
 use Rattle.tokenizer.specs.declared.state.Answer.{Answer as Came}
 use Rattle.tokenizer.specs.declared.state.Answer.TheVariants as came
@@ -100,8 +100,8 @@ module _ (d : List ℕ) (h : length d ≤ 16777216) where
         saying e tt (on-settled (stand awaited.Nothing s.sections) _ m x (step-ruled _ o refl ∙ rw (shows-innermost m.shows l))) z
 
   -- the end of the reading
-  module _ (t : Tokenizer) (o : Sound d t) (e : (tokenStep d t).answer ≡ came.End) (a : List Section) (n : ℕ) where
-    step_end : (w : Awaited) → step_of d (parser_at t w a n) ≡ on_ruling (on_end w) (parser_at t w a n) (tokenStep d t).state
+  module _ (t : Tokenizer) (o : Sound d t) (e : (token_step d t).answer ≡ came.End) (a : List Section) (n : ℕ) where
+    step_end : (w : Awaited) → step_of d (parser_at t w a n) ≡ on_ruling (on_end w) (parser_at t w a n) (token_step d t).state
     unfolding ruling_of step_with step_kept
     step_end w = step-ruled (parser_at t w a n) o refl ∙ rw e
 

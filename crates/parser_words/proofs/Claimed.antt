@@ -9,7 +9,7 @@ use lib.ListN.{length, get_or, length-append, length-drop}
 use lib.Seq.{get_or-drop}
 use borrow.Author.Tests.{le-leb}
 use Rattle.tokenizer.specs.Token.{token_values}
-use Rattle.tokenizer.specs.Step.{fresh as freshTokenizer}
+use Rattle.tokenizer.specs.Step.{fresh as fresh_tokenizer}
 use Rattle.parser_rules.specs.Ruling.{values_of}
 use Rattle.parser_rules.specs.declared.ruling.Sort.{Sort}
 use Rattle.parser_rules.specs.declared.ruling.Sort.TheVariants as sort
@@ -90,5 +90,5 @@ pub answer-lists : AnswerLists
 answer-lists = lists-tell values_of values-injective
 
 pub layout : Layout
-unfolding fresh freshTokenizer flag held_words part_words front_words words_of sort_word section_words awaited_words kept_words middle_words parser_words token_values
+unfolding fresh fresh_tokenizer flag held_words part_words front_words words_of sort_word section_words awaited_words kept_words middle_words parser_words token_values
 layout = record { begins = refl; token_kept = refl; end_kept = refl }

@@ -6,7 +6,7 @@ use lib.Dec.{ltb}
 use lib.ListN.{length, length-set}
 use Rattle.text.proofs.Cases.{on-cond}
 use Rattle.tokenizer.specs.Step.{fit}
-use Rattle.tokenizer.specs.Step.{step_of as tokenStep}
+use Rattle.tokenizer.specs.Step.{step_of as token_step}
 use Rattle.tokenizer.specs.declared.state.State.{State as Tokenizer}
 use Rattle.tokenizer.specs.declared.state.Answer.{Answer as Came}
 use Rattle.parser_rules.specs.Ruling.{ruling_of}
@@ -30,7 +30,7 @@ sections-after (Fix s) l n = length-set l _ _
 sections-after (Open o) l n = length-set l _ _
 sections-after Close l n = refl
 
-module _ (d : List ℕ) (T : Tokenizer → Type 0) (steps : (t : Tokenizer) → T t → T (tokenStep d t).state) (s : State)
+module _ (d : List ℕ) (T : Tokenizer → Type 0) (steps : (t : Tokenizer) → T t → T (token_step d t).state) (s : State)
     (h : Having T s) where
   ruled : (r : Ruling) (t : Tokenizer) → T t → Having T (on_ruling r s t).state
   unfolding after_verdict

@@ -3,7 +3,7 @@
 -- them.
 use Rattle.std.specs.Prelude.{ℕ, ◌≡◌, List, ◌∷◌, ◌++◌, map, Bool, true, false, length, replicate}
 use Rattle.text.specs.Bytes.{part}
-use Rattle.tokenizer.specs.Step.{fresh as freshTokenizer}
+use Rattle.tokenizer.specs.Step.{fresh as fresh_tokenizer}
 use Rattle.tokenizer.specs.declared.token.Token.TheVariants.{MultilineValue}
 use Rattle.tokenizer.specs.declared.state.State.{State as Tokenizer}
 use Rattle.parser_rules.specs.Ruling.{values_of}
@@ -63,7 +63,7 @@ parsed b a k = record {
 }
 
 pub record Layout : Type 0 where
-  pub begins : parser_words fresh ≡ words_of freshTokenizer ++ (replicate 10 0 ++ (1 ∷ replicate 130 0))
+  pub begins : parser_words fresh ≡ words_of fresh_tokenizer ++ (replicate 10 0 ++ (1 ∷ replicate 130 0))
   pub token_kept : parser_words (parsed false (awaited.Multiline 8) (kept.Token (MultilineValue 10 (part 17 20) (part 21 33))))
       ≡ words_of (standing true false) ++ (0 ∷ 2 ∷ 8 ∷ 9 ∷ 10 ∷ 21 ∷ 33 ∷ 17 ∷ 20 ∷ 0 ∷ 2 ∷ 1 ∷ 0 ∷ 2 ∷ 7 ∷ replicate 126 0)
   pub end_kept : parser_words (parsed true (awaited.Value 6) kept.End)

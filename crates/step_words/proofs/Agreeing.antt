@@ -7,7 +7,7 @@ use native.Mathlib.Omega.{arith}
 use lib.Dec.{leb}
 use borrow.Author.Tests.{le-leb}
 use Rattle.tokenizer.specs.Token.{bare, line_of, token_values}
-use Rattle.tokenizer.specs.Token.{values_of as cameValues}
+use Rattle.tokenizer.specs.Token.{values_of as came_values}
 use Rattle.tokenizer.specs.Front.{said_by}
 use Rattle.tokenizer.specs.declared.token.Token.TheVariants as token
 use Rattle.tokenizer.specs.declared.state.Answer.{Answer as Came}
@@ -42,11 +42,11 @@ Leaves o Unfit = o.answer ≡ said_by (bare 271 0)
 -- the outcome of c
 abbrev Agrees : Awaited → Innermost → Bool → Came → Type 0
 Agrees a i full c =
-    Leaves (outcome_by (judged_by (cameValues c).number (awaited_number a) (sort_number i) full) (said_by (cameValues c)) (awaited_number a) (awaited_line a) (opened_line i))
+    Leaves (outcome_by (judged_by (came_values c).number (awaited_number a) (sort_number i) full) (said_by (came_values c)) (awaited_number a) (awaited_line a) (opened_line i))
     (ruling_of a i full c)
 
 at_rest : (i : Innermost) (full : Bool) (c : Came) → Agrees awaited.Nothing i full c
-unfolding ruling_of on_end on_token settled after_entry after_hint on_entry on_outdent on_indent values_of cameValues token_values line_of judged_by settled_by after_entry_by after_hint_by outdent_by item_by key_by outcome_by awaited_words kept_words
+unfolding ruling_of on_end on_token settled after_entry after_hint on_entry on_outdent on_indent values_of came_values token_values line_of judged_by settled_by after_entry_by after_hint_by outdent_by item_by key_by outcome_by awaited_words kept_words
 at_rest i full came.End = refl
 at_rest i full (came.Token (token.Newline k)) = (refl, (refl, refl))
 at_rest i full (came.Token (token.Comment k p)) = (refl, (refl, refl))
@@ -70,7 +70,7 @@ at_rest i full (came.Token (token.NoValue k)) = refl
 at_rest i full (came.Refused n k) = rw (past n) (refl, (refl, refl))
 
 after-key : (l : ℕ) (i : Innermost) (full : Bool) (c : Came) → Agrees (awaited.Value l) i full c
-unfolding ruling_of on_end on_token settled after_entry after_hint on_entry on_outdent on_indent values_of cameValues token_values line_of judged_by settled_by after_entry_by after_hint_by outdent_by item_by key_by outcome_by awaited_words kept_words
+unfolding ruling_of on_end on_token settled after_entry after_hint on_entry on_outdent on_indent values_of came_values token_values line_of judged_by settled_by after_entry_by after_hint_by outdent_by item_by key_by outcome_by awaited_words kept_words
 after-key l i full came.End = (refl, (refl, refl))
 after-key l i full (came.Token (token.Newline k)) = (refl, (refl, refl))
 after-key l i full (came.Token (token.Comment k p)) = (refl, (refl, refl))
@@ -86,7 +86,7 @@ after-key l i full (came.Token (token.NoValue k)) = (refl, (refl, refl))
 after-key l i full (came.Refused n k) = rw (past n) (refl, (refl, refl))
 
 after-hint : (l : ℕ) (i : Innermost) (full : Bool) (c : Came) → Agrees (awaited.Multiline l) i full c
-unfolding ruling_of on_end on_token settled after_entry after_hint on_entry on_outdent on_indent values_of cameValues token_values line_of judged_by settled_by after_entry_by after_hint_by outdent_by item_by key_by outcome_by awaited_words kept_words
+unfolding ruling_of on_end on_token settled after_entry after_hint on_entry on_outdent on_indent values_of came_values token_values line_of judged_by settled_by after_entry_by after_hint_by outdent_by item_by key_by outcome_by awaited_words kept_words
 after-hint l i full came.End = (refl, (refl, refl))
 after-hint l i full (came.Token (token.Newline k)) = (refl, (refl, refl))
 after-hint l i full (came.Token (token.Comment k p)) = (refl, (refl, refl))

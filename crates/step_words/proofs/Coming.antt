@@ -10,7 +10,7 @@ use lib.Seq.{get_or-drop}
 use borrow.Author.Tests.{ltb-true}
 use Rattle.text.proofs.Cases.{by_bool}
 use Rattle.tokenizer.specs.Token.{bare, token_values}
-use Rattle.tokenizer.specs.Token.{values_of as cameValues}
+use Rattle.tokenizer.specs.Token.{values_of as came_values}
 use Rattle.tokenizer.specs.Step.{no_part, fit}
 use Rattle.tokenizer.specs.Front.{front_of, said_by, ahead_of}
 use Rattle.tokenizer.specs.declared.front.Said.{Said}
@@ -84,7 +84,7 @@ module _ (d w : List ℕ) (l : length d ≤ 16777216) (h : 137 ≤ length w) (f 
 
   -- what comes says what came, and leads to the tokenizer's state after it
   pub record Comes (k : Kept) : Type 0 where
-    pub said : (came_in Parser d w).said ≡ said_by (cameValues (came_of d (state_in w) k).answer)
+    pub said : (came_in Parser d w).said ≡ said_by (came_values (came_of d (state_in w) k).answer)
     pub words : committed (came_in Parser d w) w ≡ words_of (came_of d (state_in w) k).state ++ drop 137 w
     pub slots : length (came_of d (state_in w) k).state.indents ≡ 64
     pub fits : fit (length d) (came_of d (state_in w) k).state ≡ true
@@ -94,7 +94,7 @@ module _ (d w : List ℕ) (l : length d ≤ 16777216) (h : 137 ≤ length w) (f 
     word y i e = sym (get_or-drop 140 w i 0) ∙ ap (λ z. get_or z i 0) e
 
     pub comes : (k : Kept) → drop 140 w ≡ kept_words k ++ x → Comes k
-    unfolding kept_words cameValues
+    unfolding kept_words came_values
     comes kept.Nothing e =
         let q : came_in Parser d w ≡ ahead_of d (state_in w) = unfold came_in kept_number in rw (word _ 0 e) in
         record {

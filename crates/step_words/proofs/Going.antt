@@ -9,7 +9,7 @@ use lib.ListN.{length, drop, get_or}
 use borrow.Author.Tests.{eq-eqb, ne_eqb, eqb-true}
 use Rattle.text.proofs.Cases.{by_bool, clash}
 use Rattle.tokenizer.specs.Token.{token_values}
-use Rattle.tokenizer.specs.Token.{values_of as cameValues}
+use Rattle.tokenizer.specs.Token.{values_of as came_values}
 use Rattle.tokenizer.specs.Step.{fit}
 use Rattle.tokenizer.specs.Front.{said_by}
 use Rattle.tokenizer.specs.declared.state.Answer.{Answer as Came}
@@ -96,7 +96,7 @@ module _ (d w : List ℕ) (l : length d ≤ 16777216) (h : 278 ≤ length w) (e 
   unfolding parser_in judged_in
   leaves =
       let s = parser_in w in
-      let p : (came_in Parser d w).said ≡ said_by (cameValues (came_for d w)) = came.said in
+      let p : (came_in Parser d w).said ≡ said_by (came_values (came_for d w)) = came.said in
       let na : get_or w 138 0 ≡ awaited_number s.awaited = ap (λ x. get_or x 138 0) e ∙ number_at s (drop 278 w) (slots-in w) in
       let la : get_or w 139 0 ≡ awaited_line s.awaited = ap (λ x. get_or x 139 0) e ∙ line_at s (drop 278 w) (slots-in w) in
       let sections = ap (drop 148) e ∙ sections-at s (drop 278 w) (slots-in w) in

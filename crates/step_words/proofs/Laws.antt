@@ -10,9 +10,9 @@ use lib.Seq.{drop-length}
 use borrow.Author.Tests.{ne_eqb, le-leb}
 use Rattle.text.proofs.Cases.{by_bool, clash}
 use Rattle.tokenizer.specs.Token.{bare}
-use Rattle.tokenizer.specs.Token.{values_of as cameValues}
+use Rattle.tokenizer.specs.Token.{values_of as came_values}
 use Rattle.tokenizer.specs.Step.{fit}
-use Rattle.tokenizer.specs.Step.{step_of as tokenStep}
+use Rattle.tokenizer.specs.Step.{step_of as token_step}
 use Rattle.tokenizer.specs.Front.{said_by, ahead_of}
 use Rattle.tokenizer.specs.Lists.{is_end}
 use Rattle.tokenizer.specs.declared.front.Said.{Said}
@@ -59,9 +59,9 @@ module _ (m : Advanced) (w : List ℕ) where
 pub tokenizer-steps : TokenizerSteps
 unfolding step_in refused_in came_in kept_number
 tokenizer-steps d w l h f =
-    let t = tokenStep d (state_in w) in
+    let t = token_step d (state_in w) in
     let m = ahead_of d (state_in w) in
-    let s : m.said ≡ said_by (cameValues t.answer) = step-said d (state_in w) l f in
+    let s : m.said ≡ said_by (came_values t.answer) = step-said d (state_in w) l f in
     let n : eqb m.said.number 0 ≡ is_end t.answer = ap (λ (x : Said). eqb x.number 0) s ∙ end-number t.answer in
     let k : m.said.number ≤ 259 = rw s (step-number d (state_in w) l f) in
     by_bool (is_end t.answer)
@@ -113,8 +113,8 @@ parser-steps d s r l p =
 abbrev Stopped : State → Step → Type 0
 Stopped s x = (said_by (values_of x.answer) ≡ said_by (bare (values_of x.answer).number 0)) × (x.state ≡ s)
 
-fair : (c : Came) → (cameValues c).number ≤ 259 → Fair c
-unfolding cameValues
+fair : (c : Came) → (came_values c).number ≤ 259 → Fair c
+unfolding came_values
 fair came.End h = tt
 fair (came.Token t) h = tt
 fair (came.Refused n l) h = ne_eqb n 15 (λ e. omega arith)
@@ -128,7 +128,7 @@ module _ (d : List ℕ) (s : State) where
 
   module _ (l : length d ≤ 16777216) (f : fit (length d) s.tokenizer ≡ true) where
     fair-came : (k : Kept) → Fair (came_of d s.tokenizer k).answer
-    fair-came kept.Nothing = fair (tokenStep d s.tokenizer).answer (step-number d s.tokenizer l f)
+    fair-came kept.Nothing = fair (token_step d s.tokenizer).answer (step-number d s.tokenizer l f)
     fair-came kept.End = tt
     fair-came (kept.Token t) = tt
 

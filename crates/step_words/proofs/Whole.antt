@@ -10,7 +10,7 @@ use borrow.Author.Tests.{le-leb, ltb-false}
 use native.Mathlib.Omega.{arith}
 use Rattle.text.proofs.Cases.{on-cond}
 use Rattle.tokenizer.specs.Step.{fit_open, fit}
-use Rattle.tokenizer.specs.Step.{fresh as freshTokenizer}
+use Rattle.tokenizer.specs.Step.{fresh as fresh_tokenizer}
 use Rattle.tokenizer.specs.declared.state.State.{State as Tokenizer}
 use Rattle.tokenizer.proofs.Kept.{step-fit}
 use Rattle.parser_rules.specs.Ruling.{ruling_of}
@@ -66,7 +66,7 @@ module _ (d : List ℕ) (s : State) (h : Whole d s) where
       (λ f. h))
 
 pub fresh-whole : (d : List ℕ) → Whole d fresh
-unfolding fresh freshTokenizer fit fit_open
+unfolding fresh fresh_tokenizer fit fit_open
 fresh-whole d = record { slots = refl; sections = refl; fits = rw (le-leb 0 (length d) (omega arith)) }
 
 pub words-278 : (s : State) → length s.tokenizer.indents ≡ 64 → length s.sections ≡ 65 → length (parser_words s) ≡ 278

@@ -1,9 +1,9 @@
 -- Claims: what the step in words is, of the words of a fit state: the tokenizer's step, or the parser's. proofs/Laws proves them.
 use Rattle.std.specs.Prelude.{ℕ, ◌≤◌, ◌≡◌, List, ◌++◌, true, cond, length, drop}
 use Rattle.text.specs.Numbers.{max_document}
-use Rattle.tokenizer.specs.Token.{values_of as cameValues}
+use Rattle.tokenizer.specs.Token.{values_of as came_values}
 use Rattle.tokenizer.specs.Step.{fit}
-use Rattle.tokenizer.specs.Step.{step_of as tokenStep}
+use Rattle.tokenizer.specs.Step.{step_of as token_step}
 use Rattle.tokenizer.specs.Front.{said_by}
 use Rattle.tokenizer.specs.Lists.{is_end}
 use Rattle.parser_rules.specs.Ruling.{values_of}
@@ -33,9 +33,9 @@ FreshReads = (d w : List ℕ) → length w ≡ parser_size → (parser_in (fresh
 -- the tokenizer's: End changes nothing, and anything else is said, with the state after it in the words
 abbrev pub TokenizerSteps : Type 0
 TokenizerSteps =
-    (d w : List ℕ) → length d ≤ max_document → tokenizer_size ≤ length w → fit (length d) (state_in w) ≡ true → let t = tokenStep d (state_in w) in
+    (d w : List ℕ) → length d ≤ max_document → tokenizer_size ≤ length w → fit (length d) (state_in w) ≡ true → let t = token_step d (state_in w) in
     step_in Tokenizer d w
-    ≡ cond (is_end t.answer) (stays 0 w) (record { said = said_by (cameValues t.answer); words = words_of t.state ++ drop tokenizer_size w })
+    ≡ cond (is_end t.answer) (stays 0 w) (record { said = said_by (came_values t.answer); words = words_of t.state ++ drop tokenizer_size w })
 
 -- the parser's: the same of End and 15, r being the words behind
 abbrev pub ParserSteps : Type 0

@@ -11,7 +11,7 @@ use Rattle.tokenizer.specs.Step.{no_part}
 use Rattle.tokenizer.specs.declared.token.Token.{Token}
 use Rattle.tokenizer.specs.declared.token.Token.TheVariants.{MapKey, Value, MultilineValue}
 use Rattle.unescape_pieces.specs.Meaning.{meaning}
-use Rattle.unescape_pieces.proofs.Examples.{rules as meaningRules}
+use Rattle.unescape_pieces.proofs.Examples.{rules as meaning_rules}
 use Rattle.unescape_source.specs.Source.{source_of, sound, source_in}
 use Rattle.token_text.specs.Text.{gives, fails, text_in, is_text}
 
@@ -21,7 +21,7 @@ key n = MapKey 1 (record { start = 0; end = n })
 
 -- what computing a text unfolds
 unfoldable pub rules : List ℕ → Token → List ℕ → Bool
-unfolding meaningRules owes utf8 line_of meaning source_of sound source_in text_in is_same
+unfolding meaning_rules owes utf8 line_of meaning source_of sound source_in text_in is_same
 rules d t w = is_text (text_in d t) w
 
 -- `"a"=1` has the key `a`, not one with quotes
