@@ -40,7 +40,7 @@ token_batch d w rows = batch_of d w rows
 unfoldable parse_batch : List ℕ → List ℕ → List ℕ → Batch
 unfolding
     token_batch
-    parser_rules
+    parsing_rules
     values_of
     innermost_of
     sections_after

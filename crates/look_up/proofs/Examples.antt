@@ -14,7 +14,7 @@ use Rattle.look_up.specs.declared.search.Found.TheVariants.{Nothing, At, Refused
 
 -- what computing a look-up unfolds
 unfoldable rules : List ℕ → List ℕ → Found
-unfolding parser_rules text_rules top_entries keys_of refusal_in extent entries_of first_named look_up
+unfolding parsing_rules text_rules top_entries keys_of refusal_in extent entries_of first_named look_up
 rules d w = look_up d w
 
 -- an empty document has no `a`
