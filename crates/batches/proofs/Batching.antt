@@ -7,7 +7,7 @@ use native.Mathlib.Omega.{arith}
 use lib.Dec.{eqb, ltb}
 use lib.ListN.{length, take, drop}
 use lib.Seq.{take-append_seam}
-use borrow.Author.Tests.{eq-eqb, ne_eqb, eqb-true, le-leb, lt-ltb, ltb-false}
+use borrow.Author.Tests.{eq-eqb, ne_eqb, eqb-true, lt-ltb, ltb-false}
 use Rattle.text.proofs.Cases.{by_bool, and_left, and_right, clash}
 use Rattle.tokenizer.specs.Token.{Values, token_values}
 use Rattle.tokenizer.specs.Step.{fit}

@@ -1,23 +1,28 @@
 -- A batch of steps in words follows the steps of the states that stand in them.
 use Prim.Native.Nat.{ℕ, zero, suc, ◌≤◌}
-use mathlib.Core.Path.{◌≡◌, refl, sym, ap, subst, ◌∙◌}
+use mathlib.Core.Path.{◌≡◌, refl, ap, ◌∙◌}
 use mathlib.Core.List.{List, ◌++◌}
-use mathlib.Core.Bool.{Bool, true, false}
+use mathlib.Core.Bool.{true, false}
 use native.Mathlib.Omega.{arith}
 use lib.ListN.{length, drop, length-append}
 use lib.Seq.{drop_at}
 use borrow.Author.Tests.{ne_eqb}
 use Rattle.text.proofs.Cases.{by_bool, on-cond}
+<<<<<<< HEAD
 use Rattle.tokenizer.specs.Token.{Values}
 use Rattle.tokenizer.specs.Token.{values_of as came_values}
 use Rattle.tokenizer.specs.Step.{fit}
 use Rattle.tokenizer.specs.Step.{step_of as token_step}
 use Rattle.tokenizer.specs.Front.{said_by}
+=======
+use Rattle.tokenizer.specs.Token.{values_of as cameValues}
+use Rattle.tokenizer.specs.Step.{fit}
+use Rattle.tokenizer.specs.Step.{step_of as tokenStep}
+>>>>>>> ee3db308381392d40b3a6729d98ee9f5456e0619
 use Rattle.tokenizer.specs.Lists.{is_end}
 use Rattle.tokenizer.specs.declared.state.State.{State as Tokenizer}
 use Rattle.tokenizer.proofs.Kept.{step-fit}
 use Rattle.tokenizer.proofs.Advancing.{step-number}
-use Rattle.parser_rules.specs.Ruling.{values_of}
 use Rattle.parser.specs.Step.{step_of}
 use Rattle.parser.specs.declared.state.State.{State}
 use Rattle.tokenizer_words.specs.Words.{words_of, state_in}
@@ -28,7 +33,7 @@ use Rattle.parser_words.specs.ParserWords.{parser_words}
 use Rattle.parser_words.specs.Stops.{is_stop}
 use Rattle.batches.specs.Batch.{parsing}
 use Rattle.tokenizer_words.proofs.Slotted.{step-slots}
-use Rattle.step_words.specs.Stepping.{stops_at, Gone, step_in}
+use Rattle.step_words.specs.Stepping.{stops_at, Gone}
 use Rattle.batches.specs.Walks.{values_by, stepping}
 use Rattle.step_words.specs.Claims.{Whole}
 use Rattle.step_words.specs.declared.step.Layer.TheVariants.{Tokenizer as Tokens, Parser as Parses}

@@ -1,5 +1,5 @@
 -- `parse` takes the branches of `parse_batch_of` (proofs/Batching).
-use Prim.Native.Nat.{ℕ, ◌≤◌}
+use Prim.Native.Nat.{ℕ}
 use mathlib.Core.Path.{◌≡◌, refl, sym, ap, ◌∙◌}
 use mathlib.Core.List.{List}
 use mathlib.Core.Bool.{Bool, true, cond, ◌&&◌}
@@ -9,7 +9,7 @@ use lib.ListN.{length, replicate}
 use Rattle.text.proofs.Cases.{and_left, and_right}
 use Rattle.tokenizer.specs.Step.{fit}
 use Rattle.batches.proofs.Branching.{over, promised}
-use Rattle.parser_words.specs.ParserWords.{parser_in, parser_stored_in, parser_readable}
+use Rattle.parser_words.specs.ParserWords.{parser_in, parser_readable}
 use Rattle.batches.specs.Batch.{parse_batch_of}
 use Rattle.batches.proofs.Batching.{unread, starts-unfit, none-starts, parses-done}
 use Rattle.batches.proofs.parse_batch.parse.Goals as goal
@@ -23,8 +23,8 @@ returns-then-doc-gt-MAX_DOCUMENT c =
 pub returns-then-not-put_parser : goal.returns-then-not-put_parser
 returns-then-not-put_parser c =
     let all =
-        unread c.args.doc.now c.args.state.now c.args.rows.now c.args.state.now c.args.state.now c.if-doc-gt-MAX_DOCUMENT.false
-        (sym c.put_parser.ensures.value ∙ c.if-not-put_parser.true) in
+    unread c.args.doc.now c.args.state.now c.args.rows.now c.args.state.now c.args.state.now c.if-doc-gt-MAX_DOCUMENT.false
+    (sym c.put_parser.ensures.value ∙ c.if-not-put_parser.true) in
     record { value = all.0; state_after = all.1.0; rows_after = all.1.1 }
 
 -- where the state was put
@@ -48,9 +48,9 @@ returns-then-starts_unfit c =
     let p = put c.args.state.now _ c.put_parser.ensures.value c.put_parser.ensures.words_after c.if-not-put_parser.false in
     let u = rw p.kept at c.starts_unfit.ensures in
     let all =
-        starts-unfit c.args.doc.now c.args.state.now c.args.rows.now (replicate 278 0) (replicate 278 0)
-        c.if-doc-gt-MAX_DOCUMENT.false (omega arith) p.read p.fits refl
-        (and_right (ltb (length c.args.rows.now) 7) _ (sym u ∙ c.if-starts_unfit.true)) in
+    starts-unfit c.args.doc.now c.args.state.now c.args.rows.now (replicate 278 0) (replicate 278 0)
+    c.if-doc-gt-MAX_DOCUMENT.false (omega arith) p.read p.fits refl
+    (and_right (ltb (length c.args.rows.now) 7) _ (sym u ∙ c.if-starts_unfit.true)) in
     record { value = all.0; state_after = all.1.0; rows_after = all.1.1 }
 
 pub returns-then-t : goal.returns-then-t
@@ -60,8 +60,8 @@ returns-then-t c =
     let n = rw p.kept at t.rows_value in
     let m = rw p.kept at t.last_value in
     let all =
-        none-starts c.args.doc.now c.args.state.now c.args.rows.now (replicate 278 0) (replicate 278 0)
-        c.if-doc-gt-MAX_DOCUMENT.false (omega arith) p.read p.fits (rw (n, m) at c.if-t.true) (rw p.kept at t.rows_after) in
+    none-starts c.args.doc.now c.args.state.now c.args.rows.now (replicate 278 0) (replicate 278 0)
+    c.if-doc-gt-MAX_DOCUMENT.false (omega arith) p.read p.fits (rw (n, m) at c.if-t.true) (rw p.kept at t.rows_after) in
     record { value = all.0; state_after = all.1.0; rows_after = all.1.1 }
 
 pub returns : goal.returns
@@ -72,7 +72,7 @@ returns c =
     let n = rw p.kept at t.rows_value in
     let m = rw p.kept at t.last_value in
     let all =
-        parses-done c.args.doc.now c.args.state.now c.args.rows.now _ _ c.if-doc-gt-MAX_DOCUMENT.false (omega arith) p.read p.fits
-        (sym u ∙ c.if-starts_unfit.false) (rw (n, m) at c.if-t.false)
-        n (rw p.kept at t.w_after) (rw p.kept at t.rows_after) c.put_back.ensures in
+    parses-done c.args.doc.now c.args.state.now c.args.rows.now _ _ c.if-doc-gt-MAX_DOCUMENT.false (omega arith) p.read p.fits
+    (sym u ∙ c.if-starts_unfit.false) (rw (n, m) at c.if-t.false)
+    n (rw p.kept at t.w_after) (rw p.kept at t.rows_after) c.put_back.ensures in
     record { value = all.0; state_after = all.1.0; rows_after = all.1.1 }

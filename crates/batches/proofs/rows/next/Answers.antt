@@ -1,5 +1,5 @@
 -- A batch of one: its row, or the number that stops it (proofs/Taking).
-use mathlib.Core.Path.{refl, sym, ap, ◌∙◌}
+use mathlib.Core.Path.{sym, ap, ◌∙◌}
 use native.Mathlib.Omega.{arith}
 use borrow.Author.Tests.{lt-ltb, le-ltb}
 use Rattle.tokenizer.specs.Token.{bare}

@@ -1,6 +1,6 @@
 -- `tokenize` takes the branches of `batch_of` (proofs/Batching).
 use mathlib.Core.Path.{sym, ap, ◌∙◌}
-use mathlib.Core.Bool.{true, cond}
+use mathlib.Core.Bool.{cond}
 use native.Mathlib.Omega.{arith}
 use Rattle.tokenizer_words.specs.Words.{stored_in, state_in}
 use Rattle.batches.specs.Batch.{batch_of}
@@ -18,8 +18,8 @@ pub returns-then-not-put_tokenizer : goal.returns-then-not-put_tokenizer
 unfolding batch_of
 returns-then-not-put_tokenizer c =
     let all =
-        promised
-        (unfit _ _ _ _ _ c.if-doc-gt-MAX_DOCUMENT.false (sym c.put_tokenizer.ensures.value ∙ c.if-not-put_tokenizer.true)) in
+    promised
+    (unfit _ _ _ _ _ c.if-doc-gt-MAX_DOCUMENT.false (sym c.put_tokenizer.ensures.value ∙ c.if-not-put_tokenizer.true)) in
     record { value = all.0; state_after = all.1.0; rows_after = all.1.1 }
 
 pub returns : goal.returns
@@ -28,7 +28,7 @@ returns c =
     let g = c.put_tokenizer.ensures.words_after ∙ ap (λ x. cond x (stored_in (state_in c.args.state.now) _) _) y in
     let t = c.take_rows-t.ensures in
     let all =
-        tokens-done c.args.doc.now c.args.state.now c.args.rows.now _ _ c.if-doc-gt-MAX_DOCUMENT.false (omega arith)
-        (sym c.put_tokenizer.ensures.value ∙ y)
-        (rw g at t.rows_value) (rw g at t.w_after) (rw g at t.rows_after) c.put_back.ensures in
+    tokens-done c.args.doc.now c.args.state.now c.args.rows.now _ _ c.if-doc-gt-MAX_DOCUMENT.false (omega arith)
+    (sym c.put_tokenizer.ensures.value ∙ y)
+    (rw g at t.rows_value) (rw g at t.w_after) (rw g at t.rows_after) c.put_back.ensures in
     record { value = all.0; state_after = all.1.0; rows_after = all.1.1 }

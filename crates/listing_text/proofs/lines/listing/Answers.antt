@@ -1,15 +1,12 @@
 use Prim.Native.Nat.{ℕ}
 use mathlib.Core.Path.{◌≡◌, refl, sym, ap, ◌∙◌}
 use mathlib.Core.List.{List}
-use mathlib.Core.Bool.{true, false}
 use native.Mathlib.Omega.{arith}
 use lib.ListN.{length, get_or, replicate}
 use Rattle.tokenizer_rows.specs.Rows.{row_of, row_by}
 use Rattle.parser_rules.specs.Ruling.{values_of}
 use Rattle.parser_rules.specs.declared.ruling.Answer.TheVariants.{Refused}
 use Rattle.parser.specs.Step.{step_of}
-use Rattle.parser.specs.Lists.{is_end}
-use Rattle.parser.specs.declared.state.Step.{Step}
 use Rattle.parser_words.specs.ParserWords.{parser_in}
 use Rattle.step_words.specs.Claims.{Reading}
 use Rattle.batches.specs.Claims.{ParserStep}
@@ -17,7 +14,7 @@ use Rattle.batches.specs.Walks.{next_of}
 use Rattle.step_words.proofs.Laws.{fresh-reads}
 use Rattle.batches.proofs.Walking.{next-steps}
 use Rattle.listing_text.specs.Listing.{header, answer_text}
-use Rattle.listing_text.proofs.Placing.{Wrote, wrote, both, placed-length}
+use Rattle.listing_text.proofs.Placing.{wrote, both, placed-length}
 use Rattle.listing_text.proofs.Turns.{end-zero, not-zero, line-is, start, ended, fewer, row_fits, next, over, listed}
 use Rattle.listing_text.proofs.lines.listing.Goals as goal
 
@@ -45,8 +42,8 @@ unfolding answer_text
 returns-then-doc-gt-MAX_LISTED c =
     let h = wrote header 0 _ c.put_text-at.ensures.value c.put_text-at.ensures.out_after in
     let all =
-        over _ c.if-doc-gt-MAX_LISTED.true
-        (both h (wrote (answer_text (Refused 12 0)) _ _ c.put_row.ensures.value c.put_row.ensures.out_after)) in
+    over _ c.if-doc-gt-MAX_LISTED.true
+    (both h (wrote (answer_text (Refused 12 0)) _ _ c.put_row.ensures.value c.put_row.ensures.out_after)) in
     record { value = all.0; out_after = all.1 }
 
 pub loop-row-init : goal.loop-row-init
@@ -83,8 +80,7 @@ loop-row-preserved c =
     let k = taken c.args.doc.now c.loop-row.words c.loop-row.invariant.0 c.next.ensures.words_after c.next.ensures.row_after in
     let onward = not-zero _ (λ e. c.if-row-eq0.false (k.number ∙ e)) in
     let line = line-is _ onward in
-    let p = c.put_answer-at.ensures in
-    (
+    let p = c.put_answer-at.ensures in (
       k.reading,
       next _ _ _ c.loop-row.invariant.1 onward k.stepped p.upper_bound
           (wrote _ _ _ (rw (k.rowed, line) at p.value) (rw (k.rowed, line) at p.out_after)),

@@ -8,8 +8,8 @@ pub returns-then-refused : goal.returns-then-refused
 unfolding kind_text
 returns-then-refused c =
     let w =
-        both (record { place = c.put_text-a.ensures.value; buffer = c.put_text-a.ensures.out_after })
-        (record { place = c.put_number.ensures.value; buffer = c.put_number.ensures.out_after }) in
+    both (record { place = c.put_text-a.ensures.value; buffer = c.put_text-a.ensures.out_after })
+    (record { place = c.put_number.ensures.value; buffer = c.put_number.ensures.out_after }) in
     record { value = rw c.if-refused.true w.place; upper_bound = omega arith; out_after = rw c.if-refused.true w.buffer }
 
 pub returns : goal.returns
