@@ -8,17 +8,9 @@ use lib.ListN.{length, drop, length-append}
 use lib.Seq.{drop_at}
 use borrow.Author.Tests.{ne_eqb}
 use Rattle.text.proofs.Cases.{by_bool, on-cond}
-<<<<<<< HEAD
-use Rattle.tokenizer.specs.Token.{Values}
 use Rattle.tokenizer.specs.Token.{values_of as came_values}
 use Rattle.tokenizer.specs.Step.{fit}
 use Rattle.tokenizer.specs.Step.{step_of as token_step}
-use Rattle.tokenizer.specs.Front.{said_by}
-=======
-use Rattle.tokenizer.specs.Token.{values_of as cameValues}
-use Rattle.tokenizer.specs.Step.{fit}
-use Rattle.tokenizer.specs.Step.{step_of as tokenStep}
->>>>>>> ee3db308381392d40b3a6729d98ee9f5456e0619
 use Rattle.tokenizer.specs.Lists.{is_end}
 use Rattle.tokenizer.specs.declared.state.State.{State as Tokenizer}
 use Rattle.tokenizer.proofs.Kept.{step-fit}
