@@ -40,6 +40,7 @@ pub fn relate(inner: &[u8], indent: &[u8]) -> Relation
 }
 
 // Whether b ends a text outside quotes: CR, LF, `;`, and for a key `=`, which is `also`; a value's `also` is `;`.
+#[tactic(auto, unfolding(crate::specs::Scans::stops))]
 fn stops_text(b: u8, also: u8) -> bool
     ensures { result ≡ stops also b }
 {

@@ -1,4 +1,6 @@
 use Rattle.std.proofs.Common.{rules}
+use Rattle.std.proofs.lemmas.Bool.Decides.{nat_tests}
+use native.Mathlib.Omega.{arith}
 use mathlib.Core.Path.{sym, ◌∙◌}
 use borrow.Author.Tests.{eq-eqb, ne_eqb}
 use Rattle.text.proofs.Front.{some}
@@ -7,8 +9,6 @@ use Rattle.tokenizer_scans.proofs.readers.quotes_len.Goals as goal
 use Rattle.tokenizer_scans.proofs.readers.quotes_len.Goals.{
   else-b-eq34-via-then-b-eq34+else-not-escaped,
   else-b-eq34-via-else-b-eq34,
-  then-b-eq92,
-  else-b-eq92,
 }
 
 pub returns-in_default : goal.returns-in_default
@@ -40,7 +40,7 @@ loop-i-preserved c = (
   c.loop-i.invariant.1
       ∙ more _ _ _ c.loop-i-test.true (sym c.is_newline.ensures ∙ c.if-is_newline.false)
       (elim c.else-b-eq34.branch [ else-b-eq34-via-then-b-eq34+else-not-escaped w ↦ rw (eq-eqb _ _ w.if-b-eq34.true, w.if-not-escaped.false) | else-b-eq34-via-else-b-eq34 w ↦ rw (ne_eqb _ _ w.if-b-eq34.false) ])
-      (elim c.if-b-eq92.branch [ then-b-eq92 w ↦ w.escaped-is ∙ rw (eq-eqb _ _ w.if-b-eq92.true) | else-b-eq92 w ↦ w.escaped-is ∙ rw (ne_eqb _ _ w.if-b-eq92.false) ]),
+      (grind (arith, nat_tests)),
 )
 
 pub returns : goal.returns
