@@ -119,6 +119,7 @@ fn end(m: Marks, depth: usize) -> Plan
 }
 
 // The test of rule 4: `;`, unless the indentation and multiline marks are both set.
+#[tactic(auto, unfolding(crate::specs::Plan::begins_comment))]
 fn is_comment(m: Marks, b: u8) -> bool
     ensures { result ≡ begins_comment m b }
 {
