@@ -44,7 +44,7 @@ content-requires c = record { w_bound = search rules; w_nonzero = some _ _ (sym 
 pub returns : goal.returns
 unfolding plan_at
 returns c =
-    let none = rw c.newline_size.ensures at c.if-newline_size-gt0.false in
+    let no-break = rw c.newline_size.ensures at c.if-newline_size-gt0.false in
     let first = sym c.first_of.ensures ∙ c.in-Byte.is in
-    rw (← from, at_byte _ _ _ _ _ _ _ _ none first, sym c.is_comment.ensures ∙ c.if-is_comment.false)
+    rw (← from, at_byte _ _ _ _ _ _ _ _ no-break first, sym c.is_comment.ensures ∙ c.if-is_comment.false)
     c.content.ensures

@@ -19,7 +19,7 @@ overflow_mul-n c =
 
 pub overflow_add-n : goal.overflow_add-n
 overflow_add-n c =
-    omega (arith, grows _ _ _ c.loop-i.invariant.1 c.if-d-ge16.false, room (c.loop-i.i + 1) (omega arith))
+    omega (arith, room (c.loop-i.i + 1) (omega arith), grows _ _ _ c.loop-i.invariant.1 c.if-d-ge16.false)
 
 pub loop-i-preserved : goal.loop-i-preserved
 loop-i-preserved c = (
