@@ -2,7 +2,7 @@
  * Prints the keys, items and values of a CONL layout, one on each line: its line, its depth, what
  * it is, and its unescaped text. Build it, in the repository's folder, with
  *
- *     cc -std=c11 -Iinclude -o target/keys examples/keys.c target/staticlib/libabi.a
+ *     cc -std=c11 -Iinclude -o crates/abi/out/keys examples/keys.c crates/abi/out/libabi.a
  *
  * The status is 1 where the layout is refused, and 2 where it cannot be read or its keys cannot be
  * written.

@@ -3,7 +3,7 @@
  * a thread whose stack was painted before. Fails where one uses more than README says. Build it, in
  * the repository's folder, with
  *
- *     cc -std=c11 -Iinclude -o target/stack examples/stack.c target/staticlib/libabi.a -lpthread
+ *     cc -std=c11 -Iinclude -o crates/abi/out/stack examples/stack.c crates/abi/out/libabi.a -lpthread
  */
 #define _POSIX_C_SOURCE 200809L
 #include "conl.h"

@@ -1,6 +1,6 @@
 /*
- * The proved reader of CONL, for C: the functions of target/staticlib/libabi.a, which
- * `rt staticlib abi` makes from crates/abi. They need memcpy and memset, and nothing else.
+ * The proved reader of CONL, for C: the functions of crates/abi/out/libabi.a, which `rt lib` makes
+ * in crates/abi. They need memcpy and memset, and nothing else.
  *
  * A word is a size_t, of 64 bits.
  *
