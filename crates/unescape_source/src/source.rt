@@ -2,7 +2,7 @@
 ghost use Rattle.std.specs.Prelude.{◌≡◌};
 ghost use Rattle.tokenizer.specs.Step.{no_part};
 ghost use Rattle.unescape_pieces.specs.declared.start.Style.TheVariants.{AsIs};
-ghost use Rattle.unescape_source.specs.Source.{source_at as wordedAs, source_of, sound, source_in};
+ghost use Rattle.unescape_source.specs.Source.{source_at as worded_as, source_of, sound, source_in};
 
 use text::Part;
 use tokenizer::{State, Token};
@@ -25,7 +25,7 @@ pub enum Checked {
 
 // A text with no indentation.
 fn source_at(style: Style, text: Part) -> Source
-    ensures { result ≡ wordedAs style text }
+    ensures { result ≡ worded_as style text }
 {
     Source {
         style,
@@ -36,7 +36,7 @@ fn source_at(style: Style, text: Part) -> Source
 
 // A token without a text.
 fn no_source() -> Source
-    ensures { result ≡ wordedAs AsIs no_part }
+    ensures { result ≡ worded_as AsIs no_part }
 {
     source_at(Style::AsIs, Part { start: 0, end: 0 })
 }
