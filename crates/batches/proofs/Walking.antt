@@ -44,15 +44,15 @@ next-steps d w h =
 
 -- What a call of `next` in words of a reading leaves: the step's row, and words of the reading still, in which the step's
 -- state stands.
-pub record Taken (d words words' row : List ℕ) : Type 0 where
+pub record Called (d words words' row : List ℕ) : Type 0 where
   pub reading : Reading d words'
   pub rowed : row ≡ row_of (values_of (step_of d (parser_in words)).answer)
   pub number : get_or row 0 0 ≡ (values_of (step_of d (parser_in words)).answer).number
   pub stepped : parser_in words' ≡ (step_of d (parser_in words)).state
 
-pub taken : (d words : List ℕ) {words' row : List ℕ} → Reading d words → words' ≡ (next_of d words).words → row ≡ row_by (next_of d words).said
-    → Taken d words words' row
-taken d words r w e =
+pub called : (d words : List ℕ) {words' row : List ℕ} → Reading d words → words' ≡ (next_of d words).words → row ≡ row_by (next_of d words).said
+    → Called d words words' row
+called d words r w e =
     let s = next-steps d words r in
     let rowed = e ∙ ap row_by s.said in
     record { reading = rw w s.reading; rowed = rowed; number = ap (λ x. get_or x 0 0) rowed; stepped = ap parser_in w ∙ s.state }

@@ -2,7 +2,7 @@ use mathlib.Core.Path.{refl, sym}
 use native.Mathlib.Omega.{arith}
 use lib.ListN.{replicate}
 use Rattle.step_words.proofs.Laws.{fresh-reads}
-use Rattle.batches.proofs.Walking.{taken}
+use Rattle.batches.proofs.Walking.{called}
 use Rattle.look_up.proofs.Searched.{look-up-over}
 use Rattle.look_up.proofs.Searching.{begins, finds, falls, goes_on}
 use Rattle.look_up.proofs.search.look_up.Goals as goal
@@ -20,15 +20,15 @@ on_row-requires c = omega (arith, c.loop-found.invariant.1.counts)
 
 pub returns-in-Ends : goal.returns-in-Ends
 returns-in-Ends c =
-    let k = taken c.args.doc.now c.loop-found.words c.loop-found.invariant.0 c.next.ensures.words_after c.next.ensures.row_after in
+    let k = called c.args.doc.now c.loop-found.words c.loop-found.invariant.0 c.next.ensures.words_after c.next.ensures.row_after in
     finds _ _ _ _ c.loop-found.invariant.1 k.rowed c.on_row.ensures c.in-Ends.is
 
 pub loop-found-smaller : goal.loop-found-smaller
 loop-found-smaller c =
-    let k = taken c.args.doc.now c.loop-found.words c.loop-found.invariant.0 c.next.ensures.words_after c.next.ensures.row_after in
+    let k = called c.args.doc.now c.loop-found.words c.loop-found.invariant.0 c.next.ensures.words_after c.next.ensures.row_after in
     falls _ _ _ _ c.loop-found.invariant.1 k.rowed c.on_row.ensures k.stepped c.in-Goes.is
 
 pub loop-found-preserved : goal.loop-found-preserved
 loop-found-preserved c =
-    let k = taken c.args.doc.now c.loop-found.words c.loop-found.invariant.0 c.next.ensures.words_after c.next.ensures.row_after in
+    let k = called c.args.doc.now c.loop-found.words c.loop-found.invariant.0 c.next.ensures.words_after c.next.ensures.row_after in
     (k.reading, goes_on _ _ _ _ c.loop-found.invariant.1 k.rowed c.on_row.ensures k.stepped c.in-Goes.is)
