@@ -3,7 +3,7 @@ use Prim.Native.Nat.{ℕ}
 use mathlib.Core.Path.{◌≡◌, sym, ap, ◌∙◌}
 use mathlib.Core.List.{List, [], ◌++◌, append-nil}
 use lib.Dec.{ltb}
-use lib.ListN.{length}
+use lib.ListN.{length, get_or}
 use borrow.Author.Tests.{ltb-true, ltb-false}
 use Rattle.text.proofs.Cases.{by_bool}
 use Rattle.tokenizer.specs.Front.{said_by}
@@ -13,7 +13,8 @@ use Rattle.parser.specs.declared.state.State.{State}
 use Rattle.parser.proofs.Steps.{over}
 use Rattle.parser_words.specs.ParserWords.{parser_words, parser_in}
 use Rattle.parser_words.specs.Stops.{is_stop}
-use Rattle.step_words.specs.Claims.{Whole}
+use Rattle.tokenizer_rows.specs.Rows.{row_of, row_by}
+use Rattle.step_words.specs.Claims.{Reading, Whole}
 use Rattle.step_words.specs.Stepping.{Gone}
 use Rattle.step_words.proofs.Whole.{step-whole}
 use Rattle.step_words.proofs.Laws.{parser-steps, step-stops, reads}
@@ -40,3 +41,18 @@ next-steps d w h =
     ap (next_of d) h.words ∙ rw (append-nil (parser_words s), append-nil (parser_words (step_of d s).state)) at (next-of d s [] h.whole) in
     let r = reads d (step_of d s).state (next_of d w).words (ap (λ (g : Gone). g.words) e) (step-whole d s h.whole) in
     record { said = ap (λ (g : Gone). g.said) e; state = r.0; reading = r.1 }
+
+-- What a call of `next` in words of a reading leaves: the step's row, and words of the reading still, in which the step's
+-- state stands.
+pub record Called (d words words' row : List ℕ) : Type 0 where
+  pub reading : Reading d words'
+  pub rowed : row ≡ row_of (values_of (step_of d (parser_in words)).answer)
+  pub number : get_or row 0 0 ≡ (values_of (step_of d (parser_in words)).answer).number
+  pub stepped : parser_in words' ≡ (step_of d (parser_in words)).state
+
+pub called : (d words : List ℕ) {words' row : List ℕ} → Reading d words → words' ≡ (next_of d words).words → row ≡ row_by (next_of d words).said
+    → Called d words words' row
+called d words r w e =
+    let s = next-steps d words r in
+    let rowed = e ∙ ap row_by s.said in
+    record { reading = rw w s.reading; rowed = rowed; number = ap (λ x. get_or x 0 0) rowed; stepped = ap parser_in w ∙ s.state }

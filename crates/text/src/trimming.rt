@@ -24,7 +24,7 @@ fn drops(which: Dropped, b: u8) -> bool
 // How many dropped bytes s begins with, of which so many are known.
 fn leading_past(which: Dropped, s: &[u8], known: usize) -> usize
     requires known_in_bounds { known ≤ length s.now }
-    requires s_value { count_while (dropped which) s.now ≡ known + count_while (dropped which) (drop known s.now) }
+    requires known_dropped { count_while (dropped which) s.now ≡ known + count_while (dropped which) (drop known s.now) }
     ensures { result ≡ count_while (dropped which) s.now }
 {
     let mut i = known;

@@ -3,8 +3,8 @@ ghost use Rattle.text_scans.specs.Eights.{eight, eights, same_at};
 
 // Whether s and p have the same eight bytes from i on.
 fn same8(s: &[u8], p: &[u8], i: usize) -> bool
-    requires i_in_bounds { i + 8 ≤ length s.now }
-    requires i_in_bounds_2 { i + 8 ≤ length p.now }
+    requires in_s { i + 8 ≤ length s.now }
+    requires in_p { i + 8 ≤ length p.now }
     ensures { result ≡ eight (same_at s.now p.now) i }
 {
     (s[i] == p[i])

@@ -77,7 +77,7 @@ fn say_text(number: usize, line: usize, place: usize, p: Part) -> Said
 // What a plan says, in numbers, with its line and its places.
 fn numbered(says: Says, line: usize, place: usize, indent: Part) -> Said
     requires says_bound { place + reach says < 2 ^ 64 }
-    requires indent_bound { (values_of (answer_of says line place indent)).number < 2 ^ 64 }
+    requires number_bound { (values_of (answer_of says line place indent)).number < 2 ^ 64 }
     ensures { result ≡ said_by (values_of (answer_of says line place indent)) }
 {
     match says {
@@ -138,7 +138,7 @@ fn carried_out(f: Front, indent: Part, p: Plan) -> Advanced
     requires pass_bound { f.place + p.pass < 2 ^ 64 }
     requires lines_bound { f.line + p.lines < 2 ^ 64 }
     requires says_bound { f.place + reach p.says < 2 ^ 64 }
-    requires indent_bound { (values_of (answer_of p.says f.line f.place indent)).number < 2 ^ 64 }
+    requires number_bound { (values_of (answer_of p.says f.line f.place indent)).number < 2 ^ 64 }
     ensures { result ≡ advanced_by f indent p }
 {
     let says = p.says;

@@ -200,8 +200,8 @@ pub(crate) fn planned(
     k: usize,
 ) -> Plan
     requires place_in_bounds { place ≤ length doc.now }
-    requires inner_value { fit_part (length doc.now) inner ≡ true }
-    requires indent_value { fit_part (length doc.now) indent ≡ true }
+    requires inner_fits { fit_part (length doc.now) inner ≡ true }
+    requires indent_fits { fit_part (length doc.now) indent ≡ true }
     ensures { result ≡ plan_at marks depth (bytes_of doc.now inner) (bytes_of doc.now indent) (drop place doc.now) k }
 {
     let inner_from = inner.start;

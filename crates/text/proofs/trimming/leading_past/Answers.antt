@@ -5,7 +5,7 @@ use mathlib.Core.Path.{sym, ◌∙◌}
 use Rattle.text.proofs.trimming.leading_past.Goals as goal
 
 pub loop-i-init : goal.loop-i-init
-loop-i-init c = (c.requires.known_in_bounds, c.requires.s_value)
+loop-i-init c = (c.requires.known_in_bounds, c.requires.known_dropped)
 
 pub returns-then-not-drops : goal.returns-then-not-drops
 returns-then-not-drops c =

@@ -11,7 +11,7 @@ unfolding trimmed
 returns-then-end-eq0 c = rw (eq-eqb _ _ (sym c.kept_end-end.ensures ∙ c.if-end-eq0.true))
 
 pub leading_past-start-requires : goal.leading_past-start-requires
-leading_past-start-requires c = record { known_in_bounds = omega arith; s_value = rw zero-add }
+leading_past-start-requires c = record { known_in_bounds = omega arith; known_dropped = rw zero-add }
 
 pub returns : goal.returns
 unfolding trimmed

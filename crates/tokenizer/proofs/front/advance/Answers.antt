@@ -26,8 +26,8 @@ planned-p-requires c =
     let i = rw from at c.indent_at-i.ensures.part_value in
     record {
       place_in_bounds = f.place;
-      inner_value = f.innermost;
-      indent_value = rw i (indent-near c.args.doc.now c.args.f f.place f.held);
+      inner_fits = f.innermost;
+      indent_fits = rw i (indent-near c.args.doc.now c.args.f f.place f.held);
     }
 
 pub carried_out-requires : goal.carried_out-requires
@@ -40,7 +40,7 @@ carried_out-requires c =
       pass_bound = room.1.1.0;
       lines_bound = room.1.1.1.0;
       says_bound = room.1.1.1.1.0;
-      indent_bound = room.1.1.1.1.1;
+      number_bound = room.1.1.1.1.1;
     }
 
 pub returns : goal.returns

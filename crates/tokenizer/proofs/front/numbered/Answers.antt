@@ -27,7 +27,7 @@ overflow_add-result-in-MultilineValue c =
 pub overflow_add-n : goal.overflow_add-n
 unfolding values_of token_values
 overflow_add-n c =
-    let h = rw c.in-Refused.is at c.requires.indent_bound in omega (arith, h)
+    let h = rw c.in-Refused.is at c.requires.number_bound in omega (arith, h)
 
 pub returns-in-End : goal.returns-in-End
 unfolding values_of token_values

@@ -55,7 +55,7 @@ planned-p-requires c =
     c.innermost-inner.ensures ∙ ap (λ i. cond (eqb s.depth 0) no_part (get_or s.indents i no_part)) c.one_less-last.ensures ∙ inner_last s.indents s.depth in
     let f = fitness _ _ (sym c.fits.ensures ∙ c.if-not-fits.false) in
     let i = rw from at c.indent_at-i.ensures.part_value in
-    record { place_in_bounds = f.place; inner_value = rw inner (inner-fit _ _ _ f.opens); indent_value = rw i (indent-fit _ _ f) }
+    record { place_in_bounds = f.place; inner_fits = rw inner (inner-fit _ _ _ f.opens); indent_fits = rw i (indent-fit _ _ f) }
 
 pub answered-answer-requires : goal.answered-answer-requires
 answered-answer-requires c =
