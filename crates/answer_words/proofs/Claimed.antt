@@ -6,15 +6,24 @@ use mathlib.Core.Bool.{Bool, true, false, ◌&&◌, ◌||◌}
 use native.Mathlib.Omega.{arith}
 use lib.ListN.{length, take, get_or}
 use borrow.Author.Tests.{le-leb, lt-leb, lt-ltb, le-ltb}
+use Rattle.std.specs.Prelude.{Result, Ok, Err}
+use Rattle.text.specs.Numbers.{number_of}
 use Rattle.text.specs.declared.bytes.Part.{Part}
-use Rattle.tokenizer.specs.Token.{token_values}
+use Rattle.text.specs.declared.refusals.Refusal.{Refusal}
+use Rattle.text.specs.declared.refusals.Refusal.TheVariants.{InvalidUtf8}
+use Rattle.std.specs.Result.{result_unwrap_or}
+use Rattle.text.specs.Refusals.{refusal_of}
+use Rattle.text.proofs.Numbered.{refusals-back}
+use Rattle.tokenizer.specs.Token.{token_values, line_of}
 use Rattle.tokenizer.specs.declared.token.Token.{Token}
-use Rattle.tokenizer_rows.specs.Rows.{row_of, token_in}
-use Rattle.tokenizer_rows.proofs.Back.{kinds, tokens-back}
-use Rattle.unescape_source.specs.Source.{source_in}
+use Rattle.tokenizer.specs.declared.token.Token.TheVariants as token
+use Rattle.tokenizer_rows.specs.Rows.{row_of, token_by, token_in}
+use Rattle.tokenizer_rows.proofs.Back.{kinds}
+use Rattle.unescape_source.specs.Source.{source_in, source_of, error}
 use Rattle.unescape.specs.Unescape.{unescape_of}
-use Rattle.unescape.specs.declared.Answer.{Answer}
-use Rattle.unescape.specs.declared.Answer.TheVariants as answer
+use Rattle.unescape.specs.declared.answer.Answer.{Answer}
+use Rattle.unescape.specs.declared.answer.Answer.TheVariants as answer
+use Rattle.unescape.specs.declared.answer.Error.{Error}
 use Rattle.answer_words.specs.Texts.{answer_words, is_token, has_answer, text_of}
 use Rattle.answer_words.specs.Claims.{RowsUnescaped, TextsOver, NoRoom, NoToken, AnswersTold, Layout}
 
@@ -26,14 +35,23 @@ or-true : (b : Bool) → (b || true) ≡ true
 or-true true = refl
 or-true false = refl
 
--- the six words of a token's row, and others behind them
+-- the six words of a token's row, and others behind them: whatever line an Outdent carries, it is unescaped alike
+row-alike : (d : List ℕ) (t : Token) (r o : List ℕ) → unescape_of d (token_in (take 6 (row_of (token_values t)) ++ r)) o ≡ unescape_of d t o
+unfolding token_in token_by token_values unescape_of source_in source_of line_of
+row-alike d (token.Newline l) r o = refl
+row-alike d (token.Comment l p) r o = refl
+row-alike d (token.Indent l) r o = refl
+row-alike d (token.Outdent l z) r o = refl
+row-alike d (token.ListItem l) r o = refl
+row-alike d (token.MapKey l p) r o = refl
+row-alike d (token.Value l p) r o = refl
+row-alike d (token.MultilineHint l p) r o = refl
+row-alike d (token.MultilineValue l i p) r o = refl
+row-alike d (token.NoValue l) r o = refl
+
 module _ (t : Token) (r : List ℕ) where
   abbrev row : List ℕ
   row = take 6 (row_of (token_values t)) ++ r
-
-  row-token : token_in row ≡ t
-  unfolding token_in
-  row-token = tokens-back t []
 
   row_told : is_token row ≡ true
   unfolding is_token
@@ -44,7 +62,7 @@ module _ (t : Token) (r : List ℕ) where
 
 pub rows-unescaped : RowsUnescaped
 unfolding text_of
-rows-unescaped d t r o w h = rw (row-token t r, row_told t r, or-true, le-leb 5 (length w) h)
+rows-unescaped d t r o w h = rw (row-alike d t r o, row_told t r, or-true, le-leb 5 (length w) h)
 
 pub texts-over : TextsOver
 unfolding text_of unescape_of source_in answer_words
@@ -63,16 +81,26 @@ no_room d r o w h = rw (lt-leb 5 (length w) h, and-false (has_answer d r))
 abbrev part_in : List ℕ → Part
 part_in w = record { start = get_or w 3 0; end = get_or w 4 0 }
 
-abbrev answer_in : List ℕ → Answer
-answer_in w =
-    get_or (answer.Plain (part_in w) ∷ answer.Written (get_or w 4 0) ∷ answer.Refused (get_or w 1 0) (get_or w 2 0) (part_in w) ∷ []) (get_or w 0 0)
-    (answer.Written 0)
+-- a refusal has its number
+abbrev refusal_in : ℕ → Refusal
+refusal_in n = result_unwrap_or (refusal_of n) InvalidUtf8
 
-answer_back : (a : Answer) → answer_in (answer_words a) ≡ a
+refusal_back : (r : Refusal) → refusal_in (number_of r) ≡ r
+refusal_back r = rw (refusals-back r)
+
+abbrev error_in : List ℕ → Error
+error_in w = record { error = error (refusal_in (get_or w 1 0)) (get_or w 2 0); shown = part_in w }
+
+abbrev answer_in : List ℕ → Result Answer Error
+answer_in w =
+    get_or (Ok (answer.Plain (part_in w)) ∷ Ok (answer.Written (get_or w 4 0)) ∷ Err (error_in w) ∷ []) (get_or w 0 0)
+    (Ok (answer.Written 0))
+
+answer_back : (a : Result Answer Error) → answer_in (answer_words a) ≡ a
 unfolding answer_words
-answer_back (answer.Plain p) = refl
-answer_back (answer.Written n) = refl
-answer_back (answer.Refused n l p) = refl
+answer_back (Ok (answer.Plain p)) = refl
+answer_back (Ok (answer.Written n)) = refl
+answer_back (Err e) = rw (refusal_back e.error.refusal)
 
 pub answers-told : AnswersTold
 answers-told a b e = sym (answer_back a) ∙ ap answer_in e ∙ answer_back b

@@ -1,14 +1,16 @@
 -- Claims about the words of answers: a token's row is unescaped as the token is, over the limit 12 comes first, and
 -- distinct answers have distinct words, in the order of include/conl.h. proofs/Claimed proves them.
-use Rattle.std.specs.Prelude.{ℕ, ◌≤◌, ◌<◌, ◌≡◌, List, [], ◌∷◌, ◌++◌, true, false, length, take, drop}
+use Rattle.std.specs.Prelude.{ℕ, ◌≤◌, ◌<◌, ◌≡◌, List, [], ◌∷◌, ◌++◌, true, false, length, take, drop, Result, Ok}
 use Rattle.text.specs.Bytes.{part}
 use Rattle.text.specs.Numbers.{max_document, too_long}
+use Rattle.text.specs.declared.refusals.Refusal.TheVariants.{InvalidEscape}
 use Rattle.tokenizer.specs.Token.{token_values}
 use Rattle.tokenizer.specs.declared.token.Token.{Token}
 use Rattle.tokenizer_rows.specs.Rows.{row_of}
-use Rattle.unescape.specs.Unescape.{unescape_of}
-use Rattle.unescape.specs.declared.Answer.{Answer}
-use Rattle.unescape.specs.declared.Answer.TheVariants as answer
+use Rattle.unescape.specs.Unescape.{refused_at, unescape_of}
+use Rattle.unescape.specs.declared.answer.Answer.{Answer}
+use Rattle.unescape.specs.declared.answer.Answer.TheVariants as answer
+use Rattle.unescape.specs.declared.answer.Error.{Error}
 use Rattle.answer_words.specs.Texts.{answer_size, answer_words, is_token, text_of}
 
 -- a token's row, with its last word or without it, is unescaped as the token is, with every buffer
@@ -37,9 +39,9 @@ NoToken =
 
 -- distinct answers have distinct words
 abbrev pub AnswersTold : Type 0
-AnswersTold = (a b : Answer) → answer_words a ≡ answer_words b → a ≡ b
+AnswersTold = (a b : Result Answer Error) → answer_words a ≡ answer_words b → a ≡ b
 
 pub record Layout : Type 0 where
-  pub plain : answer_words (answer.Plain (part 3 9)) ≡ 0 ∷ 0 ∷ 0 ∷ 3 ∷ 9 ∷ []
-  pub written : answer_words (answer.Written 7) ≡ 1 ∷ 0 ∷ 0 ∷ 0 ∷ 7 ∷ []
-  pub refused : answer_words (answer.Refused 8 4 (part 3 9)) ≡ 2 ∷ 8 ∷ 4 ∷ 3 ∷ 9 ∷ []
+  pub plain : answer_words (Ok (answer.Plain (part 3 9))) ≡ 0 ∷ 0 ∷ 0 ∷ 3 ∷ 9 ∷ []
+  pub written : answer_words (Ok (answer.Written 7)) ≡ 1 ∷ 0 ∷ 0 ∷ 0 ∷ 7 ∷ []
+  pub refused : answer_words (refused_at InvalidEscape 4 (part 3 9)) ≡ 2 ∷ 8 ∷ 4 ∷ 3 ∷ 9 ∷ []

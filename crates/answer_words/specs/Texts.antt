@@ -1,21 +1,22 @@
 -- The port's own: the law's unescaping over lent words. The token is a row, and the answer is five words: 0 for the
 -- plain part, 1 for a text that was written, 2 for a refusal; a refusal's number and line; start and end of the plain
 -- part or of the part shown, 0 and the length of the written text.
-use Rattle.std.specs.Prelude.{ℕ, List, [], ◌∷◌, ◌++◌, Bool, cond, ◌&&◌, ◌||◌, leb, ltb, length, get_or, drop}
-use Rattle.text.specs.Numbers.{max_document}
+use Rattle.std.specs.Prelude.{ℕ, List, [], ◌∷◌, ◌++◌, Bool, cond, ◌&&◌, ◌||◌, leb, ltb, length, get_or, drop, Result, Ok, Err}
+use Rattle.text.specs.Numbers.{max_document, number_of}
 use Rattle.tokenizer_rows.specs.Rows.{token_in}
 use Rattle.unescape.specs.Unescape.{Unescaped, unescape_of}
-use Rattle.unescape.specs.declared.Answer.{Answer}
-use Rattle.unescape.specs.declared.Answer.TheVariants.{Plain, Written, Refused}
+use Rattle.unescape.specs.declared.answer.Answer.{Answer}
+use Rattle.unescape.specs.declared.answer.Answer.TheVariants.{Plain, Written}
+use Rattle.unescape.specs.declared.answer.Error.{Error}
 
 -- how many words an answer has, here and in the look-up
 abbrev pub answer_size : ℕ
 answer_size = 5
 
-unfoldable pub answer_words : Answer → List ℕ
-answer_words (Plain p) = 0 ∷ 0 ∷ 0 ∷ p.start ∷ p.end ∷ []
-answer_words (Written n) = 1 ∷ 0 ∷ 0 ∷ 0 ∷ n ∷ []
-answer_words (Refused n l p) = 2 ∷ n ∷ l ∷ p.start ∷ p.end ∷ []
+unfoldable pub answer_words : Result Answer Error → List ℕ
+answer_words (Ok (Plain p)) = 0 ∷ 0 ∷ 0 ∷ p.start ∷ p.end ∷ []
+answer_words (Ok (Written n)) = 1 ∷ 0 ∷ 0 ∷ 0 ∷ n ∷ []
+answer_words (Err e) = 2 ∷ number_of e.error.refusal ∷ e.error.line ∷ e.shown.start ∷ e.shown.end ∷ []
 
 -- a token's row: six words or more, of which the first is a token's kind
 unfoldable pub is_token : List ℕ → Bool

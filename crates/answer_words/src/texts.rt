@@ -5,19 +5,28 @@ ghost use Rattle.answer_words.specs.Texts.{answer_words, is_token, has_answer, t
 use tokenizer::State;
 use tokenizer_rows::token_in;
 use tokenizer_words::paste;
-use unescape::Answer;
+use unescape::{Answer, Error};
 
-pub(crate) fn answer_words(a: Answer) -> [usize; 5]
-    ensures { result ≡ answer_words a }
+// Five words, as C declares them.
+#[tactic(auto, unfolding(crate::specs::Texts::answer_words))]
+pub(crate) fn answer_words(answer: Result<Answer, Error>) -> [usize; 5]
+    ensures { result ≡ answer_words answer }
 {
-    match a {
-        Answer::Plain(p) => [0, 0, 0, p.start, p.end],
-        Answer::Written(n) => [1, 0, 0, 0, n],
-        Answer::Refused(n, line, p) => [2, n, line, p.start, p.end],
+    match answer {
+        Ok(Answer::Plain(p)) => [0, 0, 0, p.start, p.end],
+        Ok(Answer::Written(n)) => [1, 0, 0, 0, n],
+        Err(e) => [
+            2,
+            usize::from(e.error.refusal),
+            e.error.line,
+            e.shown.start,
+            e.shown.end,
+        ],
     }
 }
 
 // Whether the words are a token's row, which may lack its last word.
+#[tactic(auto, unfolding(crate::specs::Texts::is_token))]
 fn is_token(w: &[usize]) -> bool
     ensures { result ≡ is_token w.now }
 {

@@ -1,4 +1,8 @@
 -- The batches: what was taken in words is what the rules take. Before that, 15 by its number.
+use Rattle.parser_words.proofs.Back.{reads-none}
+use Rattle.std.specs.Prelude.{Some, None, Ok, Err}
+use Rattle.tokenizer.specs.Token.{Answer, values_of, Values, token_values}
+use Rattle.text.specs.Numbers.{number_of}
 use Prim.Native.Nat.{ℕ, ◌+◌, ◌/◌, ◌^◌, ◌≤◌}
 use mathlib.Core.Path.{◌≡◌, refl, sym, ap, ◌∙◌}
 use mathlib.Core.List.{List, [], ◌∷◌, ◌++◌}
@@ -9,18 +13,14 @@ use lib.ListN.{length, take, drop}
 use lib.Seq.{take-append_seam}
 use borrow.Author.Tests.{eq-eqb, ne_eqb, eqb-true, lt-ltb, ltb-false}
 use Rattle.text.proofs.Cases.{by_bool, and_left, and_right, clash}
-use Rattle.tokenizer.specs.Token.{Values, token_values}
 use Rattle.tokenizer.specs.Step.{fit}
-use Rattle.parser_rules.specs.Ruling.{values_of}
-use Rattle.parser_rules.specs.declared.ruling.Answer.{Answer}
-use Rattle.parser_rules.specs.declared.ruling.Answer.TheVariants as answer
 use Rattle.parser.specs.Step.{step_of}
 use Rattle.parser.specs.declared.state.State.{State}
 use Rattle.parser.proofs.Steps.{unfit as no-fit}
 use Rattle.tokenizer_rows.specs.Rows.{rows_of, rows_in}
 use Rattle.tokenizer_rows.proofs.Back.{kinds}
 use Rattle.tokenizer_words.specs.Words.{pasted_in, words_of, stored_in, state_in, readable}
-use Rattle.batches.specs.Batch.{Taken, taken, Batch, tokenizing, batch_of}
+use Rattle.batches.specs.Batch.{Taken, taken, Batch, tokenizing, batch_of, parsing, parse_batch_of}
 use Rattle.tokenizer_words.proofs.Pasting.{pasted-room, pasted-front}
 use Rattle.tokenizer_words.proofs.Slots.{words-137}
 use Rattle.tokenizer_words.proofs.Standing.{slots-64}
@@ -28,9 +28,9 @@ use Rattle.tokenizer_words.proofs.Storing.{has-137, stored-137}
 use Rattle.batches.proofs.Branching.{unfit, took, promised}
 use Rattle.parser_words.specs.ParserWords.{parser_words, parser_in, parser_readable, parser_stored_in}
 use Rattle.parser_words.specs.Stops.{is_unfit, is_stop}
-use Rattle.batches.specs.Batch.{parsing, parse_batch_of}
 use Rattle.parser_words.proofs.Tests.{has-278, stored-278}
 use Rattle.step_words.specs.Stepping.{Gone, step_in}
+use Rattle.std.specs.Option.{option_eq}
 use Rattle.batches.specs.Walks.{stepping, last_of}
 use Rattle.step_words.specs.Claims.{Whole}
 use Rattle.step_words.specs.declared.step.Layer.TheVariants.{Tokenizer as Tokens, Parser as Parses}
@@ -44,9 +44,10 @@ use Rattle.batches.proofs.Following.{Slotted, tokens-follow, tokens-slotted, par
 -- 15, by its number
 pub unfit-is : (a : Answer) → eqb (values_of a).number 271 ≡ is_unfit a
 unfolding values_of is_unfit
-unfit-is answer.End = refl
-unfit-is (answer.Token t o) = ne_eqb (token_values t).number 271 (λ e. let k = (kinds t).1 in omega arith)
-unfit-is (answer.Refused n l) =
+unfit-is None = refl
+unfit-is (Some (Ok t)) = ne_eqb (token_values t).number 271 (λ e. let k = (kinds t).1 in omega arith)
+unfit-is (Some (Err x)) =
+    let n = number_of x.refusal in
     by_bool (eqb n 15)
     (λ e. let k : n ≡ 15 = eqb-true n 15 e in rw k)
     (λ e. rw (e, ne_eqb (256 + n) 271 (λ q. let k : n ≡ 15 = omega arith in clash (sym (eq-eqb n 15 k) ∙ e))))
@@ -100,7 +101,7 @@ module _ (d w rows z v : List ℕ) (l : length d ≤ 16777216) where
     s = parser_in w
 
     whole : Whole d s
-    whole = record { slots = slots-in w; sections = sections-65 w; fits = f }
+    whole = record { slots = slots-in w; sections = sections-65 w; keeps = reads-none w; fits = f }
 
     -- the first step is 15
     first : eqb (step_in Parses d (parser_stored_in s z)).said.number 271 ≡ is_unfit (step_of d s).answer
@@ -121,13 +122,13 @@ module _ (d w rows z v : List ℕ) (l : length d ≤ 16777216) where
         (λ e. rw e at a)
         (λ e. let i : 7 ≤ length rows = ltb-false (length rows) 7 e in rw (lt-ltb 0 room (omega (arith, i))) at b)
 
-    none-unfit : eqb (length (taken (stepping Parses d) room (parser_stored_in s z)).answers) 0 && eqb (last_of (stepping Parses d) room (parser_stored_in s z)) 271
+    none-unfit : eqb (length (taken (stepping Parses d) room (parser_stored_in s z)).answers) 0 && option_eq eqb (last_of (stepping Parses d) room (parser_stored_in s z)) (Some 271)
         ≡ (ltb 0 room && eqb (step_in Parses d (parser_stored_in s z)).said.number 271)
     none-unfit = last_none (stepping Parses d) (parser_stored_in s z) (not-unfit _) room
 
     -- a batch that takes none for 15
     pub none-starts : {rows' : List ℕ} → let x = parser_stored_in s z in let t = taken (stepping Parses d) room x in
-        (eqb (length t.answers) 0 && eqb (last_of (stepping Parses d) room x) 271) ≡ true → rows' ≡ rows_in t.answers rows → Leaves (parse_batch_of d w rows) (2 ^ 63 + 15) w rows'
+        (eqb (length t.answers) 0 && option_eq eqb (last_of (stepping Parses d) room x) (Some 271)) ≡ true → rows' ≡ rows_in t.answers rows → Leaves (parse_batch_of d w rows) (2 ^ 63 + 15) w rows'
     none-starts e r =
         let x = parser_stored_in s z in
         let a = (taken (stepping Parses d) room x).answers in
@@ -135,7 +136,7 @@ module _ (d w rows z v : List ℕ) (l : length d ≤ 16777216) where
 
     pub parses-done : {n : ℕ} {w' rows' : List ℕ} → let x = parser_stored_in s z in let t = taken (stepping Parses d) room x in
         (ltb (length rows) 7 && eqb (step_in Parses d x).said.number 271) ≡ false
-        → (eqb (length t.answers) 0 && eqb (last_of (stepping Parses d) room x) 271) ≡ false
+        → (eqb (length t.answers) 0 && option_eq eqb (last_of (stepping Parses d) room x) (Some 271)) ≡ false
         → n ≡ length t.answers → v ≡ t.state → rows' ≡ rows_in t.answers rows → w' ≡ pasted_in (take 278 v) 0 w → Leaves (parse_batch_of d w rows) n w' rows'
     unfolding parse_batch_of
     parses-done a c p q r u =

@@ -5,10 +5,8 @@ use mathlib.Core.Path.{◌≡◌, refl}
 use mathlib.Core.List.{List, [], ◌∷◌}
 use lib.ListN.{drop, replicate}
 use Rattle.text.specs.Ascii.{ascii}
-use Rattle.tokenizer.specs.Token.{token_values}
-use Rattle.tokenizer.specs.Token.{values_of as came_values}
+use Rattle.tokenizer.specs.Token.{token_values, values_of}
 use Rattle.tokenizer.proofs.Examples.{rules as token_rules}
-use Rattle.parser_rules.specs.Ruling.{values_of}
 use Rattle.parser.specs.Step.{innermost_of, sections_after, count_after, after_verdict, step_with, step_kept, step_of, fresh}
 use Rattle.parser.proofs.Examples.{rules as parsing_rules}
 use Rattle.tokenizer_rows.specs.Rows.{rows_of, rows_in, token_by, token_in}
@@ -34,7 +32,7 @@ use Rattle.batches.specs.Batch.{Batch, taken, batch_by, batch_of, parse_batch_of
 
 -- what computing a batch unfolds
 unfoldable token_batch : List ℕ → List ℕ → List ℕ → Batch
-unfolding token_rules token_values came_values flag held_words part_words front_words words_of stored_in parts_in state_in readable rows_of rows_in taken batch_by batch_of
+unfolding token_rules token_values values_of flag held_words part_words front_words words_of stored_in parts_in state_in readable rows_of rows_in taken batch_by batch_of
 token_batch d w rows = batch_of d w rows
 
 unfoldable parse_batch : List ℕ → List ℕ → List ℕ → Batch

@@ -8,9 +8,8 @@ use lib.ListN.{length, drop, length-append}
 use lib.Seq.{drop_at}
 use borrow.Author.Tests.{ne_eqb}
 use Rattle.text.proofs.Cases.{by_bool, on-cond}
-use Rattle.tokenizer.specs.Token.{values_of as came_values}
-use Rattle.tokenizer.specs.Step.{fit}
-use Rattle.tokenizer.specs.Step.{step_of as token_step}
+use Rattle.tokenizer.specs.Token.{values_of}
+use Rattle.tokenizer.specs.Step.{fit, step_of as token_step}
 use Rattle.tokenizer.specs.Lists.{is_end}
 use Rattle.tokenizer.specs.declared.state.State.{State as Tokenizer}
 use Rattle.tokenizer.proofs.Kept.{step-fit}
@@ -18,12 +17,11 @@ use Rattle.tokenizer.proofs.Advancing.{step-number}
 use Rattle.parser.specs.Step.{step_of}
 use Rattle.parser.specs.declared.state.State.{State}
 use Rattle.tokenizer_words.specs.Words.{words_of, state_in}
-use Rattle.batches.specs.Batch.{Steps, Taken, taken, tokenizing}
+use Rattle.batches.specs.Batch.{Steps, Taken, taken, tokenizing, parsing}
 use Rattle.tokenizer_words.proofs.Slots.{words-137}
 use Rattle.tokenizer_words.proofs.Standing.{state-back}
 use Rattle.parser_words.specs.ParserWords.{parser_words}
 use Rattle.parser_words.specs.Stops.{is_stop}
-use Rattle.batches.specs.Batch.{parsing}
 use Rattle.tokenizer_words.proofs.Slotted.{step-slots}
 use Rattle.step_words.specs.Stepping.{stops_at, Gone}
 use Rattle.batches.specs.Walks.{values_by, stepping}
@@ -73,7 +71,7 @@ module _ (d r : List ℕ) (l : length d ≤ 16777216) where
       record {
         stops = by_bool (is_end t.answer)
             (λ e. rw e (rw (rw e at q)))
-            (λ e. rw e (rw (rw e at q) (rw (end-number t.answer ∙ e, ne_eqb (came_values t.answer).number 271 (λ z. omega (arith, step-number d s l p.1))))));
+            (λ e. rw e (rw (rw e at q) (rw (end-number t.answer ∙ e, ne_eqb (values_of t.answer).number 271 (λ z. omega (arith, step-number d s l p.1))))));
         says = λ e. ap (λ (g : Gone). values_by g.said) (rw e at q);
         next = λ e. ap (λ (g : Gone). g.words) (rw e at q);
         after = (step-slots d s ∙ p.0, step-fit d s l p.1);

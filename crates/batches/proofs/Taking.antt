@@ -5,6 +5,8 @@ use mathlib.Core.List.{List, [], ◌∷◌, ◌++◌, append-nil, append_assoc}
 use mathlib.Core.Bool.{true, false, ◌&&◌}
 use native.Mathlib.Nat.{sub-zero}
 use native.Mathlib.Omega.{arith}
+use Rattle.std.specs.Prelude.{Some, None}
+use Rattle.std.specs.Option.{option_eq}
 use lib.Dec.{eqb, ltb, eqb-suc-zero}
 use lib.ListN.{length, length-append}
 use borrow.Author.Tests.{lt-ltb, le-ltb}
@@ -84,11 +86,11 @@ module _ {S : Type 0} (m : Steps S) where
       full h = let k : room - n ≡ 0 = omega arith in ended (rw k)
 
       -- the number that stopped
-      pub last-stop : n < room → All m w₀ w room n s₀ s → last_of m room s₀ ≡ (m.says s).number
+      pub last-stop : n < room → All m w₀ w room n s₀ s → last_of m room s₀ ≡ Some (m.says s).number
       unfolding last_of
       last-stop h a = rw (← a.0, lt-ltb n room h, ← a.1.0)
 
-      pub last-full : room ≤ n → All m w₀ w room n s₀ s → last_of m room s₀ ≡ 1
+      pub last-full : room ≤ n → All m w₀ w room n s₀ s → last_of m room s₀ ≡ None
       unfolding last_of
       last-full h a = rw (← a.0, le-ltb n room h)
 
@@ -104,12 +106,12 @@ module _ {S : Type 0} (m : Steps S) (s : S) where
 
   module _ (h : m.stops s ≡ false → eqb (m.says s).number 271 ≡ false) where
     -- a batch of one stops by 15 if the step is 15
-    pub last_one : eqb (last_of m 1 s) 271 ≡ eqb (m.says s).number 271
+    pub last_one : option_eq eqb (last_of m 1 s) (Some 271) ≡ eqb (m.says s).number 271
     unfolding last_of
     last_one = by_bool (m.stops s) (λ e. rw (one-stop e)) (λ e. rw (one_on e, h e))
 
     -- and a batch of n that takes none
-    pub last_none : (n : ℕ) → (eqb (length (taken m n s).answers) 0 && eqb (last_of m n s) 271) ≡ (ltb 0 n && eqb (m.says s).number 271)
+    pub last_none : (n : ℕ) → (eqb (length (taken m n s).answers) 0 && option_eq eqb (last_of m n s) (Some 271)) ≡ (ltb 0 n && eqb (m.says s).number 271)
     unfolding last_of taken
     last_none zero = refl
     last_none (suc n) =

@@ -1,4 +1,5 @@
 -- `next` is the parser's step, of the words of a reading.
+use Rattle.tokenizer.specs.Token.{values_of}
 use Prim.Native.Nat.{ℕ}
 use mathlib.Core.Path.{◌≡◌, sym, ap, ◌∙◌}
 use mathlib.Core.List.{List, [], ◌++◌, append-nil}
@@ -7,7 +8,6 @@ use lib.ListN.{length, get_or}
 use borrow.Author.Tests.{ltb-true, ltb-false}
 use Rattle.text.proofs.Cases.{by_bool}
 use Rattle.tokenizer.specs.Front.{said_by}
-use Rattle.parser_rules.specs.Ruling.{values_of}
 use Rattle.parser.specs.Step.{step_of}
 use Rattle.parser.specs.declared.state.State.{State}
 use Rattle.parser.proofs.Steps.{over}

@@ -2,13 +2,10 @@
 -- the state after them.
 use Rattle.std.specs.Prelude.{ℕ, zero, suc, ◌+◌, ◌/◌, ◌^◌, List, [], ◌∷◌, ◌++◌, Bool, cond, not, ◌&&◌, ltb, length, drop}
 use Rattle.text.specs.Numbers.{max_document, too_long, unfit_state}
-use Rattle.tokenizer.specs.Token.{Values}
-use Rattle.tokenizer.specs.Token.{values_of as came_values}
-use Rattle.tokenizer.specs.Step.{fit}
-use Rattle.tokenizer.specs.Step.{step_of as token_step}
+use Rattle.tokenizer.specs.Token.{Values, values_of}
+use Rattle.tokenizer.specs.Step.{fit, step_of as token_step}
 use Rattle.tokenizer.specs.Lists.{is_end}
 use Rattle.tokenizer.specs.declared.state.State.{State as Tokenizer}
-use Rattle.parser_rules.specs.Ruling.{values_of}
 use Rattle.parser.specs.Step.{step_of}
 use Rattle.parser.specs.declared.state.State.{State}
 use Rattle.tokenizer_rows.specs.Rows.{row_size, rows_in}
@@ -58,7 +55,7 @@ batch_by d fits b w rows = cond (ltb max_document (length d)) (refused_batch too
 -- the tokenizer's steps stop at End
 abbrev pub tokenizing : List ℕ → Steps Tokenizer
 tokenizing d = record {
-  says = λ s. came_values (token_step d s).answer;
+  says = λ s. values_of (token_step d s).answer;
   next = λ s. (token_step d s).state;
   stops = λ s. is_end (token_step d s).answer;
 }

@@ -1,6 +1,6 @@
 -- Intermediate: batches of steps in words, which proofs/Batching ties to specs/Batch; and the parser's step for the walks inside
 -- the library, which specs/Claims ties to the parser's step.
-use Rattle.std.specs.Prelude.{ℕ, List, cond, ltb, length}
+use Rattle.std.specs.Prelude.{ℕ, List, cond, ltb, length, Option, Some, None}
 use Rattle.text.specs.Numbers.{max_document, too_long}
 use Rattle.tokenizer.specs.Token.{Values, refusal_number}
 use Rattle.tokenizer.specs.declared.front.Said.{Said}
@@ -20,9 +20,9 @@ stepping layer d = record {
   stops = λ w. stops_at (step_in layer d w).said.number;
 }
 
--- the number that stops a batch of at most n steps; 1 where it has no room for it
-unfoldable pub last_of : {S : Type 0} → Steps S → ℕ → S → ℕ
-last_of m n s = let t = taken m n s in cond (ltb (length t.answers) n) (m.says t.state).number 1
+-- the number that stops a batch of at most n steps; none where it has no room for it
+unfoldable pub last_of : {S : Type 0} → Steps S → ℕ → S → Option ℕ
+last_of m n s = let t = taken m n s in cond (ltb (length t.answers) n) (Some (m.says t.state).number) None
 
 -- the parser's step for the walks inside the library: 12, then 15 where what this step uses is unfit, then the step
 unfoldable pub next_of : List ℕ → List ℕ → Gone

@@ -1,23 +1,14 @@
 // A batch of the parser's steps.
-ghost use Rattle.std.specs.Prelude.{◌≡◌, cond, ◌&&◌, eqb, ltb};
-ghost use Rattle.tokenizer.specs.Step.{fit};
-ghost use Rattle.parser_words.specs.ParserWords.{parser_readable, parser_in, parser_stored_in};
+ghost use Rattle.std.specs.Prelude.{◌≡◌, ◌&&◌, eqb, ltb};
 ghost use Rattle.batches.specs.Batch.{parse_batch_of};
 ghost use Rattle.step_words.specs.Stepping.{step_in};
 ghost use Rattle.step_words.specs.declared.step.Layer.TheVariants.{Parser};
 
-use crate::rows::{TOO_LONG, UNFIT, put_back, take_rows};
+use crate::rows::{TOO_LONG, UNFIT, take_rows};
 use parser_words::restore_parser;
 use step_words::Layer;
 use tokenizer::State;
-
-// restore_parser with an array, whose length its type tells.
-fn put_parser(n: usize, state: &[usize], words: &mut [usize; 278]) -> bool
-    ensures value { result ≡ (parser_readable state.now && fit n (parser_in state.now).tokenizer) }
-    ensures words_after { words.new ≡ cond result (parser_stored_in (parser_in state.now) words.old) words.old }
-{
-    restore_parser(n, state, words)
-}
+use tokenizer_words::paste;
 
 // Whether the first step is 15 where fewer than seven words leave no room for its row: it is tried on a copy of the words.
 fn starts_unfit(doc: &[u8], words: &[usize; 278], room: usize) -> bool
@@ -29,7 +20,7 @@ fn starts_unfit(doc: &[u8], words: &[usize; 278], room: usize) -> bool
     let mut tried = *words;
     let mut row = [0usize; 7];
     let t = take_rows(doc, Layer::Parser, &mut tried, &mut row);
-    t.last == 271
+    t.last == Some(271)
 }
 
 // Takes answers until End or 15 comes or no room is left for a row: how many; or, with nothing written, a refusal: 12, or 15
@@ -43,16 +34,16 @@ pub fn parse(doc: &[u8], state: &mut [usize], rows: &mut [usize]) -> usize
         return TOO_LONG;
     }
     let mut words = [0usize; 278];
-    if !put_parser(doc.len(), state, &mut words) {
+    if !restore_parser(doc.len(), state, &mut words) {
         return UNFIT;
     }
     if starts_unfit(doc, &words, rows.len()) {
         return UNFIT;
     }
     let t = take_rows(doc, Layer::Parser, &mut words, rows);
-    if (t.rows == 0) & (t.last == 271) {
+    if (t.rows == 0) & (t.last == Some(271)) {
         return UNFIT;
     }
-    put_back(&words, 278, state);
+    paste(&words, 0, state);
     t.rows
 }

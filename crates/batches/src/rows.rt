@@ -1,25 +1,24 @@
 // What goes over the steps: rows, up to a stop, for the batches, and one row for the walks inside the library.
-ghost use Rattle.std.specs.Prelude.{◌≡◌, ◌/◌, ◌≤◌, length, take};
+ghost use Rattle.std.specs.Prelude.{◌≡◌, ◌/◌, length};
 ghost use Rattle.tokenizer_rows.specs.Rows.{row_by, rows_in};
-ghost use Rattle.tokenizer_words.specs.Words.{pasted_in};
 ghost use Rattle.batches.specs.Batch.{taken};
 ghost use Rattle.batches.specs.Walks.{stepping, last_of, next_of};
 
 use step_words::{Layer, step_in, stops};
 use tokenizer::State;
 use tokenizer_rows::bare_row;
-use tokenizer_words::paste;
 
-// The refusals before the first step: 2^63, which is above any count of rows, and 12 or 15.
+// The refusals before the first step: 2^63, which is above any count of rows, and 12 or 15. Numbers, since C has one for
+// a batch's answer.
 pub(crate) const TOO_LONG: usize = 0x8000_0000_0000_000C;
 
 pub(crate) const UNFIT: usize = 0x8000_0000_0000_000F;
 
-// How many rows were taken, and the number that stopped there; 1 where no room was left.
+// How many rows were taken, and the number that stopped there; none where no room was left.
 #[derive(Clone, Copy)]
 pub(crate) struct Took {
     pub(crate) rows: usize,
-    pub(crate) last: usize,
+    pub(crate) last: Option<usize>,
 }
 
 // Takes answers until End or 15 comes or no room is left for a row. The state stands in the words, and stays there.
@@ -30,31 +29,19 @@ pub(crate) fn take_rows(doc: &[u8], layer: Layer, w: &mut [usize; 278], rows: &m
     ensures rows_after { rows.new ≡ rows_in (taken (stepping layer doc.now) (length rows.old / 7) w.old).answers rows.old }
 {
     let room = rows.len() / 7;
-    let mut n = 0;
-    while n < room {
+    for n in 0..room {
         let last = step_in(doc, layer, w, 7 * n, rows);
         if stops(last) {
-            return Took { rows: n, last };
+            return Took {
+                rows: n,
+                last: Some(last),
+            };
         }
-        n += 1;
     }
-    Took { rows: n, last: 1 }
-}
-
-// Writes the first n words at the front of the state.
-fn put_front(w: &[usize], n: usize, state: &mut [usize])
-    requires { n ≤ length w.now }
-    ensures { state.new ≡ pasted_in (take n w.now) 0 state.old }
-{
-    paste(&w[..n], 0, state);
-}
-
-// The same with an array, whose length its type tells.
-pub(crate) fn put_back(w: &[usize; 278], n: usize, state: &mut [usize])
-    requires { n ≤ 278 }
-    ensures { state.new ≡ pasted_in (take n w.now) 0 state.old }
-{
-    put_front(w, n, state);
+    Took {
+        rows: room,
+        last: None,
+    }
 }
 
 // The parser's next answer, in its row, and the words after it: 12, then 15 where what this step uses is unfit, then the step. Of
@@ -68,7 +55,7 @@ pub fn next(doc: &[u8], words: &mut [usize; 278], row: &mut [usize; 7])
         return;
     }
     let t = take_rows(doc, Layer::Parser, words, row);
-    if t.rows == 0 {
-        *row = bare_row(t.last, 0);
+    if let Some(last) = t.last {
+        *row = bare_row(last, 0);
     }
 }

@@ -2,16 +2,18 @@
 ghost use Rattle.std.specs.Prelude.{◌≡◌, leb, length};
 ghost use Rattle.found_words.specs.Found.{found_words, found_in};
 
-use look_up::Found;
+use look_up::Outcome;
 use tokenizer_words::paste;
 
-fn found_words(f: Found) -> [usize; 5]
-    ensures { result ≡ found_words f }
+// Five words, as C declares them.
+#[tactic(auto, unfolding(crate::specs::Found::found_words))]
+fn found_words(answer: Outcome) -> [usize; 5]
+    ensures { result ≡ found_words answer }
 {
-    match f {
-        Found::Nothing => [0, 0, 0, 0, 0],
-        Found::At(line, p) => [1, 0, line, p.start, p.end],
-        Found::Refused(n, line) => [2, n, line, 0, 0],
+    match answer {
+        Ok(None) => [0, 0, 0, 0, 0],
+        Ok(Some(found)) => [1, 0, found.line, found.part.start, found.part.end],
+        Err(e) => [2, e.refusal.into(), e.line, 0, 0],
     }
 }
 

@@ -1,4 +1,7 @@
 -- The tokenizer's part of the words: what a step reads there, and what it leaves there, is what stands in the state.
+use Rattle.text.specs.Numbers.{number_of}
+use Rattle.std.specs.Prelude.{Some, None, Ok, Err}
+use Rattle.tokenizer.specs.Token.{Answer, token_values, values_of}
 use Prim.Native.Nat.{ℕ, zero, suc, ◌+◌, ◌*◌, ◌≤◌, ◌<◌}
 use mathlib.Core.Path.{◌≡◌, refl, sym, ap, ◌∙◌}
 use mathlib.Core.List.{List, ◌++◌, append_assoc}
@@ -11,14 +14,11 @@ use borrow.Author.Tests.{lt-ltb}
 use Rattle.text.specs.declared.bytes.Part.{Part}
 use Rattle.tokenizer_rules.specs.declared.plan.Change.{Change}
 use Rattle.tokenizer_rules.specs.declared.plan.Change.TheVariants.{Keep, Open, Close, Hold}
-use Rattle.tokenizer.specs.Token.{token_values, values_of}
 use Rattle.tokenizer.specs.Step.{no_part, inner_of, indents_after, depth_after, fit, step_of}
 use Rattle.tokenizer.specs.Front.{front_of, ahead_of}
 use Rattle.tokenizer.specs.Lists.{is_end}
 use Rattle.tokenizer.specs.declared.front.Front.{Front}
 use Rattle.tokenizer.specs.declared.state.State.{State}
-use Rattle.tokenizer.specs.declared.state.Answer.{Answer}
-use Rattle.tokenizer.specs.declared.state.Answer.TheVariants as answer
 use Rattle.tokenizer.specs.declared.token.Token.TheVariants as token
 use Rattle.tokenizer.proofs.Fitness.{fitness}
 use Rattle.tokenizer.proofs.Kept.{step-fit}
@@ -97,15 +97,15 @@ step-committed d w l h e =
 -- End has the number 0, and nothing else
 pub end-number : (a : Answer) → eqb (values_of a).number 0 ≡ is_end a
 unfolding values_of token_values is_end
-end-number answer.End = refl
-end-number (answer.Token (token.Newline l)) = refl
-end-number (answer.Token (token.Comment l p)) = refl
-end-number (answer.Token (token.Indent l)) = refl
-end-number (answer.Token (token.Outdent l)) = refl
-end-number (answer.Token (token.ListItem l)) = refl
-end-number (answer.Token (token.MapKey l p)) = refl
-end-number (answer.Token (token.Value l p)) = refl
-end-number (answer.Token (token.MultilineHint l p)) = refl
-end-number (answer.Token (token.MultilineValue l i p)) = refl
-end-number (answer.Token (token.NoValue l)) = refl
-end-number (answer.Refused n l) = let e : 256 + n ≡ suc (255 + n) = omega arith in rw (e, eqb-suc-zero)
+end-number None = refl
+end-number (Some (Ok (token.Newline l))) = refl
+end-number (Some (Ok (token.Comment l p))) = refl
+end-number (Some (Ok (token.Indent l))) = refl
+end-number (Some (Ok (token.Outdent l o))) = refl
+end-number (Some (Ok (token.ListItem l))) = refl
+end-number (Some (Ok (token.MapKey l p))) = refl
+end-number (Some (Ok (token.Value l p))) = refl
+end-number (Some (Ok (token.MultilineHint l p))) = refl
+end-number (Some (Ok (token.MultilineValue l i p))) = refl
+end-number (Some (Ok (token.NoValue l))) = refl
+end-number (Some (Err x)) = let n = number_of x.refusal in let e : 256 + n ≡ suc (255 + n) = omega arith in rw (e, eqb-suc-zero)

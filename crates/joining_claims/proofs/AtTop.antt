@@ -1,5 +1,7 @@
 -- Where a document's parsing stands at its end, unless it has refused: at the top level, whose sort is that of the first
 -- top-level entry that was said.
+use Rattle.std.specs.Prelude.{Some, None, Ok}
+use Rattle.tokenizer.specs.Token.{Answer as Came}
 use Prim.Native.Nat.{ℕ, suc, ◌≤◌, ◌<◌}
 use mathlib.Core.Path.{◌≡◌, sym, ap, ◌∙◌, subst}
 use mathlib.Core.List.{List, [], ◌∷◌, ◌++◌}
@@ -8,12 +10,9 @@ use native.Mathlib.Omega.{arith}
 use lib.ListN.{length}
 use Rattle.text.proofs.Cases.{by_bool, clash}
 use Rattle.tokenizer.specs.Lists.{Reads, ends, says, tokens}
-use Rattle.tokenizer.specs.declared.state.Answer.{Answer as Came}
-use Rattle.tokenizer.specs.declared.state.Answer.TheVariants as came
 use Rattle.tokenizer.specs.declared.state.State.{State as Tokenizer}
 use Rattle.tokenizer_claims.proofs.Sound.{Sound, fresh-sound}
-use Rattle.tokenizer_claims.proofs.Claimed.{sound-kept, sound-vouches}
-use Rattle.tokenizer_claims.proofs.Claimed.{ends as reading-ends}
+use Rattle.tokenizer_claims.proofs.Claimed.{sound-kept, sound-vouches, ends as reading-ends}
 use Rattle.parser_rules.specs.Ruling.{on_token, ruling_of}
 use Rattle.parser.specs.Step.{no_sort}
 use Rattle.parser.specs.Lists.{Stand, stack_after, Fed, stand_after, fed_once, ruled, fed_twice, fed_by, feed, fresh_stand}
@@ -55,8 +54,8 @@ twice-runs : (s : Stand) (k : Kept) (v : Verdict) → Turns s.sections (Says v) 
     → 0 < length (fed_twice s k v).next.sections
     → (fed_twice s k v).goes_on ≡ true → Runs s.sections (fed_twice s k v).says (fed_twice s k v).next.sections
 twice-runs s kept.Nothing v t k n h g = once_runs s (Says v) t h g
-twice-runs s kept.End v t k n h g = again-runs s v came.End t.1 k n h g
-twice-runs s (kept.Token x) v t k n h g = again-runs s v (came.Token x) t.1 k n h g
+twice-runs s kept.End v t k n h g = again-runs s v None t.1 k n h g
+twice-runs s (kept.Token x) v t k n h g = again-runs s v (Some (Ok x)) t.1 k n h g
 
 feed-runs : (s : Stand) (c : Came) → 0 < length s.sections → 0 < length (feed s c).next.sections → (feed s c).goes_on ≡ true
     → Runs s.sections (feed s c).says (feed s c).next.sections

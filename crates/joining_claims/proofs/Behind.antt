@@ -1,23 +1,23 @@
 -- Demand 3, clause 3, over lists: a key or an item after a list that ended at the top level. What is awaited there gets its NoValue or
 -- its refusal as at the end of the document; then the entry is refused where the top level is of the other sort, or read as
 -- the first of a document is.
+use Rattle.joining_claims.specs.Joined.{refusal_of}
+use Rattle.std.specs.Prelude.{Some, None, Ok, Err}
+use Rattle.tokenizer.specs.Token.{Answer as Came}
+use Rattle.text.specs.Numbers.{error}
 use Prim.Native.Nat.{ℕ}
 use mathlib.Core.Path.{◌≡◌, refl}
 use mathlib.Core.List.{List, [], ◌∷◌, ◌++◌}
 use mathlib.Core.Bool.{Bool, true, false, cond}
 use Rattle.text.proofs.Cases.{by_bool}
 use Rattle.tokenizer.specs.declared.token.Token.{Token}
-use Rattle.tokenizer.specs.declared.state.Answer.{Answer as Came}
-use Rattle.tokenizer.specs.declared.state.Answer.TheVariants as came
 use Rattle.parser_rules.specs.Ruling.{clashes, on_entry, settled, after_entry, after_hint, on_token, on_end, ruling_of}
 use Rattle.parser.specs.Lists.{Stand, feed, parsed, fresh_stand}
-use Rattle.parser_rules.specs.declared.ruling.Answer.TheVariants as answer
 use Rattle.parser_rules.specs.declared.ruling.Sort.{Sort}
 use Rattle.parser_rules.specs.declared.ruling.Sort.TheVariants.{Map, List as Listed}
 use Rattle.parser_rules.specs.declared.ruling.Awaited.{Awaited}
 use Rattle.parser_rules.specs.declared.ruling.Awaited.TheVariants as awaited
 use Rattle.parser_claims.proofs.Given.{Entry, item, key}
-use Rattle.joining_claims.specs.Joined.{number_of}
 use Rattle.joining_claims.proofs.Tops.{level}
 
 -- a stand at the top level
@@ -31,8 +31,8 @@ hinted (awaited.Value m) = false
 hinted (awaited.Multiline m) = true
 
 -- the end of the document first
-pub behind : (a : Awaited) (s : Sort) (l : List Came) {t : Token} {m : ℕ} {k : Sort} → Entry t m k → parsed (at_top a s) (came.Token t ∷ l)
-    ≡ (feed (at_top a s) came.End).says ++ cond (hinted a) [] (parsed (at_top awaited.Nothing s) (came.Token t ∷ l))
+pub behind : (a : Awaited) (s : Sort) (l : List Came) {t : Token} {m : ℕ} {k : Sort} → Entry t m k → parsed (at_top a s) (Some (Ok t) ∷ l)
+    ≡ (feed (at_top a s) None).says ++ cond (hinted a) [] (parsed (at_top awaited.Nothing s) (Some (Ok t) ∷ l))
 unfolding parsed feed ruling_of on_token on_end settled after_entry after_hint on_entry
 behind awaited.Nothing s l e = refl
 behind (awaited.Value k) s l item = by_bool (clashes s Listed) (λ e. rw e) (λ e. rw e)
@@ -41,8 +41,8 @@ behind (awaited.Multiline k) s l item = refl
 behind (awaited.Multiline k) s l key = refl
 
 -- then the entry, by the sort of the top level
-pub entry-after : (s : Sort) (l : List Came) {t : Token} {m : ℕ} {k : Sort} → Entry t m k → parsed (at_top awaited.Nothing s) (came.Token t ∷ l)
-    ≡ cond (clashes s k) (answer.Refused (number_of k) m ∷ []) (parsed fresh_stand (came.Token t ∷ l))
+pub entry-after : (s : Sort) (l : List Came) {t : Token} {m : ℕ} {k : Sort} → Entry t m k → parsed (at_top awaited.Nothing s) (Some (Ok t) ∷ l)
+    ≡ cond (clashes s k) (Some (Err (error (refusal_of k) m)) ∷ []) (parsed fresh_stand (Some (Ok t) ∷ l))
 unfolding parsed feed ruling_of on_token settled on_entry
 entry-after s l item = by_bool (clashes s Listed) (λ e. rw e) (λ e. rw e)
 entry-after s l key = by_bool (clashes s Map) (λ e. rw e) (λ e. rw e)

@@ -1,26 +1,25 @@
 -- What each state of P's own reading is known to be, where P ends in a break: the line counts the breaks before the place; the
 -- value mark is clear where the indentation mark is set; every open indentation has a byte; and at P's end the indentation mark
 -- is set and nothing is held.
+use Rattle.std.specs.Prelude.{None, Option, Some}
 use Prim.Native.Nat.{ℕ, suc, ◌+◌, ◌-◌, ◌≤◌, ◌<◌}
 use mathlib.Core.Path.{◌≡◌, refl, sym, ap, ◌∙◌}
 use mathlib.Core.List.{List, [], ◌∷◌}
 use mathlib.Core.Bool.{Bool, true, false, false≢true}
+use native.Mathlib.Numerals.{one-add}
 use native.Mathlib.Omega.{arith}
 use lib.ListN.{length, take, drop, length-take, length-drop}
 use lib.Seq.{drop-drop}
-use Rattle.text.specs.Bytes.{is_break, break_size, count_while, line_end}
+use Rattle.text.specs.Bytes.{is_break, break_size, line_end}
 use Rattle.text.specs.declared.bytes.Part.{Part}
 use Rattle.text.specs.declared.trimming.Dropped.TheVariants.{Blanks}
 use Rattle.tokenizer_scans.specs.Scans.{plain_end, checked_of, breaks, begins_hint}
 use Rattle.tokenizer_rules.specs.Plan.{hint_marks, plan_newline, plan_comment, plan_item, plan_key, plan_plain, plan_multiline, plan_outdent}
 use Rattle.tokenizer.specs.Step.{bytes_of, size_of, held_after, depth_after, after_plan, fresh}
-use Rattle.tokenizer_scans.specs.declared.readers.Text.{Text}
-use Rattle.tokenizer_scans.specs.declared.readers.Text.TheVariants.{Good, Bad}
 use Rattle.tokenizer_rules.specs.declared.plan.Marks.{Marks}
 use Rattle.tokenizer_rules.specs.declared.plan.Change.{Change}
 use Rattle.tokenizer_rules.specs.declared.plan.Change.TheVariants.{Keep, Open, Close, Hold}
 use Rattle.tokenizer_rules.specs.declared.plan.Plan.{Plan}
-use Rattle.tokenizer.specs.declared.state.Held.TheVariants.{Nothing}
 use Rattle.tokenizer.specs.declared.state.State.{State}
 use Rattle.tokenizer_rules.proofs.PlanCases.{Entry, later, first}
 use Rattle.tokenizer.proofs.Bounds.{rest-size}
@@ -52,7 +51,7 @@ Still m = m.indent ≡ true → m.value ≡ false
 record Stays (indent rest : List ℕ) (c : Plan) : Type 0 where
   line : c.lines + breaks (drop c.pass rest) ≡ breaks rest
   still : Still c.marks
-  idle : drop c.pass rest ≡ [] → (c.marks.indent ≡ true) × ((i : Part) → held_after c.change i ≡ Nothing)
+  idle : drop c.pass rest ≡ [] → (c.marks.indent ≡ true) × ((i : Part) → held_after c.change i ≡ None)
   wide : Opening c.change (1 ≤ length indent)
 
 -- one that stays in the line
@@ -74,18 +73,17 @@ entry-unset : {m n : Marks} {inner indent : List ℕ} → Entry m inner indent n
 entry-unset (later e) = e
 entry-unset (first e q) = refl
 
-hint-unset : (t : Text) (m : Marks) → m.indent ≡ false → (hint_marks t m).indent ≡ false
-hint-unset (Good p) m e = e
-hint-unset Bad m e = e
+hint-unset : (t : Option Part) (m : Marks) → m.indent ≡ false → (hint_marks t m).indent ≡ false
+hint-unset (Some p) m e = e
+hint-unset None m e = e
 
 -- a line's first byte that is no break
 line_first : (b : ℕ) (r : List ℕ) → is_break b ≡ false → line_end (b ∷ r) ≡ suc (line_end r)
-unfolding count_while
-line_first b r e = rw e
+line_first b r e = rw (e, one-add)
 
 module _ (p : List ℕ) (x : State) (closed : Closed (rest_of p x)) (still : Still x.marks) (idle : rest_of p x ≡ [] → x.marks.indent ≡ true) where
   stays : StepCases p x (Stays (bytes_of p (indent_at p x)) (rest_of p x))
-  unfolding plan_newline plan_comment plan_item plan_key plan_plain plan_multiline plan_outdent count_while is_break begins_hint
+  unfolding plan_newline plan_comment plan_item plan_key plan_plain plan_multiline plan_outdent is_break begins_hint
   stays =
       let rest = rest_of p x in
       let indent = bytes_of p (indent_at p x) in
@@ -140,7 +138,7 @@ pub record Course (p : List ℕ) (x : State) : Type 0 where
   pub room : length x.indents ≡ 64
   pub line : x.line + breaks (rest_of p x) ≡ 1 + breaks p
   pub still : Still x.marks
-  pub idle : rest_of p x ≡ [] → (x.marks.indent ≡ true) × (x.held ≡ Nothing)
+  pub idle : rest_of p x ≡ [] → (x.marks.indent ≡ true) × (x.held ≡ None)
   pub wide : Pairs Wide x.indents x.indents x.depth
 
 pub fresh-course : (p : List ℕ) → Course p fresh

@@ -1,14 +1,12 @@
 -- The parser over a list in two parts: what the first part makes it say, then the second part from where it then stands, unless
 -- it has stopped. It stops exactly where it has refused.
+use Rattle.std.specs.Prelude.{Some, None, Ok, Err}
+use Rattle.tokenizer.specs.Token.{Answer as Came, Answer}
 use mathlib.Core.Path.{◌≡◌, refl, sym, ap, ◌∙◌}
 use mathlib.Core.List.{List, [], ◌∷◌, ◌++◌, append_assoc}
 use mathlib.Core.Bool.{true, false, cond, not, ◌||◌}
 use Rattle.text.proofs.Cases.{by_bool, clash}
-use Rattle.tokenizer.specs.declared.state.Answer.{Answer as Came}
-use Rattle.tokenizer.specs.declared.state.Answer.TheVariants as came
 use Rattle.parser.specs.Lists.{Stand, Fed, stand_after, fed_once, ruled, fed_twice, fed_by, feed, parsed, refused_in}
-use Rattle.parser_rules.specs.declared.ruling.Answer.{Answer}
-use Rattle.parser_rules.specs.declared.ruling.Answer.TheVariants as answer
 use Rattle.parser_rules.specs.declared.ruling.Kept.{Kept}
 use Rattle.parser_rules.specs.declared.ruling.Kept.TheVariants as kept
 use Rattle.parser_rules.specs.declared.ruling.Verdict.{Verdict}
@@ -33,7 +31,7 @@ parsed-append s (c ∷ l) m =
     (λ e. rw e)
 
 -- a list, and then the end
-pub parsed-end : (s : Stand) (l : List Came) → parsed s l ≡ (fed s l).says ++ cond (fed s l).goes_on (feed (fed s l).next came.End).says []
+pub parsed-end : (s : Stand) (l : List Came) → parsed s l ≡ (fed s l).says ++ cond (fed s l).goes_on (feed (fed s l).next None).says []
 unfolding fed parsed
 parsed-end s [] = refl
 parsed-end s (c ∷ l) =
@@ -45,16 +43,16 @@ parsed-end s (c ∷ l) =
 
 refused-cons : (a : Answer) (l : List Answer) → refused_in (a ∷ []) ≡ false → refused_in (a ∷ l) ≡ refused_in l
 unfolding refused_in
-refused-cons answer.End l e = refl
-refused-cons (answer.Token t o) l e = refl
-refused-cons (answer.Refused n m) l e = absurd (clash e)
+refused-cons None l e = refl
+refused-cons (Some (Ok t)) l e = refl
+refused-cons (Some (Err x)) l e = absurd (clash e)
 
 pub refused-append : (l m : List Answer) → refused_in (l ++ m) ≡ refused_in l || refused_in m
 unfolding refused_in
 refused-append [] m = refl
-refused-append (answer.End ∷ l) m = refused-append l m
-refused-append (answer.Token t o ∷ l) m = refused-append l m
-refused-append (answer.Refused n k ∷ l) m = refl
+refused-append (None ∷ l) m = refused-append l m
+refused-append (Some (Ok t) ∷ l) m = refused-append l m
+refused-append (Some (Err e) ∷ l) m = refl
 
 once-stops : (s : Stand) (r : Ruling) → Turns s.sections r → refused_in (fed_once s r).says ≡ not (fed_once s r).goes_on
 unfolding refused_in
@@ -71,8 +69,8 @@ again-stops s v c e f =
 twice-stops : (s : Stand) (k : Kept) (v : Verdict) → refused_in (v.answer ∷ []) ≡ v.refused → Keeps k v
     → refused_in (fed_twice s k v).says ≡ not (fed_twice s k v).goes_on
 twice-stops s kept.Nothing v e g = rw e (by_bool v.refused (λ e. rw e) (λ e. rw e))
-twice-stops s kept.End v e g = again-stops s v came.End e g.0
-twice-stops s (kept.Token t) v e g = again-stops s v (came.Token t) e g.0
+twice-stops s kept.End v e g = again-stops s v None e g.0
+twice-stops s (kept.Token t) v e g = again-stops s v (Some (Ok t)) e g.0
 
 -- one answer of the tokenizer: it stops exactly where it has refused
 feed-stops : (s : Stand) (c : Came) → refused_in (feed s c).says ≡ not (feed s c).goes_on

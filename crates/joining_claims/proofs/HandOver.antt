@@ -1,6 +1,7 @@
 -- What S's first line does at P's end. Its indentation is empty, so it closes the open sections one by one, as P's end does in
 -- P's own reading; when none is open it begins an entry, as it does in S's own reading. A multiline mark that P left makes no
 -- difference: no multiline value begins at an empty indentation, and the line is no comment.
+use Rattle.std.specs.Prelude.{Some, Ok}
 use Prim.Native.Nat.{ℕ, zero, suc, ◌+◌, ◌-◌, ◌<◌}
 use mathlib.Core.Path.{◌≡◌, refl, sym, ap, ◌∙◌}
 use mathlib.Core.List.{List, [], ◌∷◌, ◌++◌}
@@ -9,7 +10,7 @@ use native.Mathlib.Nat.{add-zero}
 use native.Mathlib.Omega.{arith}
 use lib.ListN.{length, drop, get_or, length-take, length-drop}
 use lib.Seq.{drop-append_seam}
-use Rattle.text.specs.Bytes.{count_while, shifted_by}
+use Rattle.text.specs.Bytes.{shifted_by}
 use Rattle.text.specs.Trimming.{dropped}
 use Rattle.text.specs.declared.bytes.Part.{Part}
 use Rattle.text.proofs.Cases.{on-cond}
@@ -18,7 +19,6 @@ use Rattle.tokenizer_rules.specs.Plan.{plan_entry, plan_outdent, cleared, plan_i
 use Rattle.tokenizer.specs.Step.{bytes_of, no_part, size_of, inner_of, plan_with, after_plan, step_with, step_rule, fresh}
 use Rattle.tokenizer_rules.specs.declared.plan.Marks.{Marks}
 use Rattle.tokenizer.specs.declared.token.Token.TheVariants as token
-use Rattle.tokenizer.specs.declared.state.Answer.TheVariants.{Token}
 use Rattle.tokenizer.specs.declared.state.State.{State}
 use Rattle.tokenizer_claims.proofs.Texts.{Indentation}
 use Rattle.tokenizer_claims.proofs.Sound.{rest_of, indent_at, Sound}
@@ -31,7 +31,7 @@ use Rattle.joining_claims.proofs.Higher.{Above, HigherStep, bytes-raised, with-r
 
 module _ (s : ℕ) (t : List ℕ) (o : Top s) where
   pub top-blanks : blanks (s ∷ t) ≡ 0
-  unfolding blanks count_while dropped
+  unfolding blanks dropped
   top-blanks = rw o.no-blank
 
   at_top : (m : Marks) → m.indent ≡ true → (depth : ℕ) (inner : List ℕ)
@@ -116,6 +116,6 @@ module _ (p : List ℕ) (s : ℕ) (t : List ℕ) where
         plan-top y.depth _ refl refl ∙ closes s t o y.marks w.indent y.depth _ i
 
     pub closing-step : Course p x → Sound (p ++ s ∷ t) y → 0 < y.depth
-        → step_rule (p ++ s ∷ t) y ≡ record { answer = Token (token.Outdent y.line); state = after_closing p y }
+        → step_rule (p ++ s ∷ t) y ≡ record { answer = Some (Ok (token.Outdent y.line 0)); state = after_closing p y }
     unfolding step_rule step_with plan_outdent
     closing-step c f d = rw (w.empty, w.size, plan-closes c f d)

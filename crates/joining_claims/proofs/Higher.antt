@@ -1,6 +1,8 @@
 -- Raising is free, since a plan knows neither place nor line: a state of the reading of P then S that stands where a state of S's
 -- own reading stands, but P's bytes and breaks higher, takes the same step, and what it answers is raised. The places in the
 -- arrays of open indentations beyond the open ones do not matter, and differ.
+use Rattle.std.specs.Prelude.{Some, None, Ok, Err, Option}
+use Rattle.tokenizer.specs.Token.{Answer}
 use Prim.Native.Nat.{ℕ, zero, suc, ◌+◌, ◌-◌, ◌≤◌}
 use mathlib.Core.Path.{◌≡◌, refl, ap, ◌∙◌}
 use mathlib.Core.List.{List, ◌∷◌, ◌++◌}
@@ -31,26 +33,22 @@ use Rattle.tokenizer_rules.specs.declared.plan.Says.TheVariants.{
   MultilineValue,
   Refused,
 }
-use Rattle.tokenizer.specs.declared.state.Held.{Held}
-use Rattle.tokenizer.specs.declared.state.Held.TheVariants.{Nothing, At}
-use Rattle.tokenizer.specs.declared.state.Answer.{Answer}
-use Rattle.tokenizer.specs.declared.state.Answer.TheVariants as answer
 use Rattle.tokenizer.specs.declared.state.State.{State}
-use Rattle.tokenizer.specs.declared.state.Step.{Step}
 use Rattle.tokenizer.proofs.Bounds.{plan-bounded}
 use Rattle.tokenizer_claims.proofs.Sound.{rest_of, indent_at, Sound, step-sound}
 use Rattle.tokenizer_claims.proofs.Claimed.{sound-kept}
 use Rattle.joining_claims.specs.Raising.{raise_token, raise, raised}
 use Rattle.joining_claims.proofs.Sections.{Pairs, Opening, room_after, pairs-after}
+use Rattle.tokenizer.specs.declared.state.Step.{Step}
 
 -- l lines and n bytes higher
 
 abbrev pub RaisedPart : ℕ → Part → Part → Type 0
 RaisedPart n i j = j ≡ shifted_by n i
 
-abbrev raise_held : ℕ → Held → Held
-raise_held n Nothing = Nothing
-raise_held n (At i) = At (shifted_by n i)
+abbrev raise_held : ℕ → Option Part → Option Part
+raise_held n None = None
+raise_held n (Some i) = Some (shifted_by n i)
 
 module _ (l n : ℕ) where
   -- y above x, in all that the next state takes over beside the plan
@@ -69,7 +67,7 @@ module _ (l n : ℕ) where
     pub held : y.held ≡ raise_held n x.held
 
   -- a step whose answer is raised, to a higher state
-  pub record HigherStep (a b : Step) : Type 0 where
+  pub record HigherStep (a b : Step State) : Type 0 where
     pub answer : b.answer ≡ raise l n a.answer
     pub state : Higher a.state b.state
 
@@ -131,13 +129,13 @@ module _ (p s : List ℕ) where
   inner-raised is js zero o = refl
   inner-raised is js (suc k) o = rw (o k (omega arith)) (bytes-raised (get_or is k no_part))
 
-  indent-raised : (h : Held) (k : ℕ) (r : List ℕ) → indent_of (raise_held (length p) h) (length p + k) r ≡ shifted_by (length p) (indent_of h k r)
-  indent-raised Nothing k r = rw (add_assoc (length p) k (blanks r))
-  indent-raised (At i) k r = refl
+  indent-raised : (h : Option Part) (k : ℕ) (r : List ℕ) → indent_of (raise_held (length p) h) (length p + k) r ≡ shifted_by (length p) (indent_of h k r)
+  indent-raised None k r = rw (add_assoc (length p) k (blanks r))
+  indent-raised (Some i) k r = refl
 
-  size-raised : (h : Held) (r : List ℕ) → size_of (raise_held (length p) h) r ≡ size_of h r
-  size-raised Nothing r = refl
-  size-raised (At i) r = refl
+  size-raised : (h : Option Part) (r : List ℕ) → size_of (raise_held (length p) h) r ≡ size_of h r
+  size-raised None r = refl
+  size-raised (Some i) r = refl
 
   module _ (x y : State) where
     -- two steps of the same plan
@@ -165,9 +163,9 @@ module _ (p s : List ℕ) where
 
 end-raised : (l n : ℕ) (a : Answer) → is_end (raise l n a) ≡ is_end a
 unfolding raise is_end
-end-raised l n answer.End = refl
-end-raised l n (answer.Token t) = refl
-end-raised l n (answer.Refused r m) = refl
+end-raised l n None = refl
+end-raised l n (Some (Ok t)) = refl
+end-raised l n (Some (Err e)) = refl
 
 -- one more answer in front
 pub more : (d : List ℕ) (y : State) {a : Answer} {as₁ : List Answer} → (step_of d y).answer ≡ a → is_end a ≡ false
@@ -186,6 +184,6 @@ module _ (p s : List ℕ) (h : length (p ++ s) ≤ 16777216) (k : length s ≤ 1
       let q' = sound-kept (p ++ s) h y q in
       let c = rule-raised p s z t o' (rw e at b.state) in
       more (p ++ s) y
-      (b.answer ∙ ap (λ (m : Step). raise (breaks p) (length p) m.answer) e)
+      (b.answer ∙ ap (λ (m : Step State). raise (breaks p) (length p) m.answer) e)
       (end-raised (breaks p) (length p) a ∙ f)
       (reads-raised r t o' q' (rw (step-sound s z k o', step-sound (p ++ s) t h q') c))

@@ -10,11 +10,12 @@ use lib.Dec.{eqb}
 use lib.ListN.{length, take, drop}
 use lib.Seq.{take-append-le, drop-append-le}
 use borrow.Author.Tests.{eqb-true}
-use Rattle.text.specs.Bytes.{is_blank, is_break, not_break, count_while, line_end, starts_with}
+use Rattle.text.specs.Bytes.{is_blank, is_break, not_break, line_end, starts_with}
+use Rattle.std.specs.List.{prefix_len}
 use Rattle.text.specs.Trimming.{dropped}
 use Rattle.text.specs.declared.trimming.Dropped.TheVariants.{Blanks}
 use Rattle.text.proofs.Cases.{by_bool, on-cond, and_left, and_right}
-use Rattle.text.proofs.Scan.{count-le}
+use Rattle.std.proofs.lemmas.List.Sums.{prefix_len-le-length}
 use Rattle.tokenizer_scans.specs.Scans.{blanks, stops, plain_end, closing, quotes_end, text_end, eq_size, breaks_after, breaks, ends_in_break}
 use Rattle.joining_claims.specs.Tokens.{Closed}
 
@@ -53,7 +54,6 @@ to-break G f g (b ∷ r) h = by_bool (is_break b) (f b r) (λ e. g b r e (to-bre
 -- over n bytes of it
 over-bytes : (G : ℕ → List ℕ → Type 0) → ((r : List ℕ) → G 0 r) → ((n b : ℕ) (r : List ℕ) → is_break b ≡ false → G n r → G (suc n) (b ∷ r))
     → (n : ℕ) (r : List ℕ) → n ≤ line_end r → G n r
-unfolding count_while
 over-bytes G f g zero r l = f r
 over-bytes G f g (suc n) [] l = absurd (omega arith)
 over-bytes G f g (suc n) (b ∷ r) l =
@@ -62,14 +62,12 @@ over-bytes G f g (suc n) (b ∷ r) l =
     (λ e. let k = rw e at l in g n b r e (over-bytes G f g n r (omega arith)))
 
 pub line-le : (r : List ℕ) → line_end r ≤ length r
-line-le r = count-le not_break r
+line-le r = prefix_len-le-length not_break r
 
 pub line-lt : (r : List ℕ) → Ended r → line_end r < length r
-unfolding count_while
 line-lt = to-break (λ r. line_end r < length r) (λ b r e. rw e (omega arith)) (λ b r e i. rw e (omega arith))
 
 pub line-drop : (n : ℕ) (r : List ℕ) → n ≤ line_end r → line_end r ≡ n + line_end (drop n r)
-unfolding count_while
 line-drop = over-bytes (λ n r. line_end r ≡ n + line_end (drop n r)) (λ r. omega arith) (λ n b r e i. rw e (omega arith))
 
 pub ended-drop : (n : ℕ) (r : List ℕ) → n ≤ line_end r → Ended r → Ended (drop n r)
@@ -110,19 +108,18 @@ and_then {f} {g} i j = record {
 }
 
 -- counting bytes, none of which is a break
-count-inline : (p : ℕ → Bool) → ((b : ℕ) → is_break b ≡ true → p b ≡ false) → Inline (count_while p)
-unfolding count_while
+count-inline : (p : ℕ → Bool) → ((b : ℕ) → is_break b ≡ true → p b ≡ false) → Inline (prefix_len p)
 count-inline p n = record {
   within = below;
-  same = λ t. to-break (λ r. count_while p (r ++ t) ≡ count_while p r) (λ b r e. rw (n b e)) (λ b r e i. rw i);
+  same = λ t. to-break (λ r. prefix_len p (r ++ t) ≡ prefix_len p r) (λ b r e. rw (n b e)) (λ b r e i. rw i);
 }
   where
-    below : (r : List ℕ) → count_while p r ≤ line_end r
+    below : (r : List ℕ) → prefix_len p r ≤ line_end r
     below [] = omega arith
     below (b ∷ r) =
         by_bool (is_break b)
         (λ e. rw (n b e) (omega arith))
-        (λ e. rw e (on-cond (λ k. k ≤ suc (line_end r)) (p b) (λ t. omega (arith, below r)) (λ t. omega arith)))
+        (λ e. rw e (on-cond (λ k. k ≤ 1 + line_end r) (p b) (λ t. omega (arith, below r)) (λ t. omega arith)))
 
 -- a break is CR or LF
 pub by-break : (G : ℕ → Type 0) (b : ℕ) → G 13 → G 10 → is_break b ≡ true → G b
@@ -141,7 +138,7 @@ unfolding plain_end stops
 plain-inline also = count-inline (λ b. not (stops also b)) (λ b e. rw e)
 
 closing-inline : (escaped : Bool) → Inline (closing escaped)
-unfolding closing count_while
+unfolding closing
 closing-inline escaped = record {
   within = below escaped;
   same = λ t r h.
@@ -156,10 +153,10 @@ closing-inline escaped = record {
         (λ e. rw e (omega arith))
         (λ e.
         let i = below (eqb b 92 && not escaped) r in
-        rw e (on-cond (λ k. k ≤ suc (line_end r)) (eqb b 34 && not escaped) (λ t. omega arith) (λ t. omega arith)))
+        rw e (on-cond (λ k. k ≤ 1 + line_end r) (eqb b 34 && not escaped) (λ t. omega arith) (λ t. omega arith)))
 
 quotes-inline : Inline quotes_end
-unfolding quotes_end count_while ends_in_break is_break
+unfolding quotes_end ends_in_break is_break
 quotes-inline = record { within = below; same = alike }
   where
     below : (r : List ℕ) → quotes_end r ≤ line_end r
@@ -181,7 +178,7 @@ unfolding text_end
 text-inline also = and_then quotes-inline (plain-inline also)
 
 pub eq-inline : Inline eq_size
-unfolding eq_size count_while is_break
+unfolding eq_size is_break
 eq-inline = record {
   within = below;
   same = λ t. to-break (λ r. eq_size (r ++ t) ≡ eq_size r) (λ b r e. refl) (λ b r e i. refl);
@@ -194,7 +191,7 @@ eq-inline = record {
 -- What a text begins with, where that has no break
 
 pub starts-line : (q r : List ℕ) → line_end q ≡ length q → starts_with q r ≡ true → length q ≤ line_end r
-unfolding starts_with count_while
+unfolding starts_with
 starts-line [] r f e = omega arith
 starts-line (a ∷ q) [] f e = absurd (false≢true e)
 starts-line (a ∷ q) (b ∷ r) f e =
@@ -206,7 +203,7 @@ starts-line (a ∷ q) (b ∷ r) f e =
     rw (← (eqb-true a b (and_left (eqb a b) (starts_with q r) e)), t) (omega arith))
 
 pub starts-same : (q t r : List ℕ) → line_end q ≡ length q → Ended r → starts_with q (r ++ t) ≡ starts_with q r
-unfolding starts_with count_while ends_in_break
+unfolding starts_with ends_in_break
 starts-same [] t r f h = refl
 starts-same (a ∷ q) t [] f h = absurd (false≢true h)
 starts-same (a ∷ q) t (b ∷ r) f h =

@@ -1,5 +1,7 @@
 -- Demand 3 for the tokenizer's lists, proved. The reading of P then S goes along with P's own: through the same states up to P's
 -- end, and there through waiting ones, with the same answers. Where P's own reading ends, S's begins, raised.
+use Rattle.std.specs.Prelude.{Some, None, Ok, Err}
+use Rattle.tokenizer.specs.Token.{Answer}
 use Prim.Native.Nat.{ℕ, ◌+◌, ◌≤◌}
 use mathlib.Core.Path.{◌≡◌, refl, sym, ap, ◌∙◌}
 use mathlib.Core.List.{List, [], ◌∷◌, ◌++◌, append-nil}
@@ -14,10 +16,7 @@ use Rattle.tokenizer_rules.specs.Plan.{plan_outdent}
 use Rattle.tokenizer.specs.Step.{size_of, after_plan, step_with, step_rule, step_of, fresh}
 use Rattle.tokenizer.specs.Lists.{is_end, Reads, ends, says, run, tokens}
 use Rattle.tokenizer.specs.declared.token.Token.TheVariants as token
-use Rattle.tokenizer.specs.declared.state.Answer.{Answer}
-use Rattle.tokenizer.specs.declared.state.Answer.TheVariants.{End, Token, Refused}
 use Rattle.tokenizer.specs.declared.state.State.{State}
-use Rattle.tokenizer.specs.declared.state.Step.{Step}
 use Rattle.tokenizer_rules.proofs.PlanCases.{plan_close}
 use Rattle.tokenizer.proofs.Bounds.{rest-size}
 use Rattle.tokenizer_claims.proofs.Sound.{rest_of, indent_at, plan_of, answer_at, step-cases, Sound, fresh-sound, step-sound}
@@ -33,6 +32,7 @@ use Rattle.joining_claims.proofs.Prefix.{step_same}
 use Rattle.joining_claims.proofs.Course.{Course, fresh-course, course-after}
 use Rattle.joining_claims.proofs.Higher.{HigherStep, more, reads-raised}
 use Rattle.joining_claims.proofs.HandOver.{top-blanks, Waits, after_closing, first_step, closing-step}
+use Rattle.tokenizer.specs.declared.state.Step.{Step}
 
 by-nil : {G : Type 0} (r : List ℕ) → (r ≡ [] → G) → ((r ≡ [] → ⊥) → G) → G
 by-nil [] f g = f refl
@@ -44,9 +44,9 @@ unfolding step_rule step_with is_end
 speaks p x f e = said (answer_at p x (plan_of p x).says) (plan-vouches p x f)
   where
     said : (a : Answer) → Vouched p x a → is_end a ≡ false
-    said End v = absurd (omega (arith, blanks-inline.within (rest_of p x), line-lt (rest_of p x) e))
-    said (Token k) v = refl
-    said (Refused n l) v = refl
+    said None v = absurd (omega (arith, blanks-inline.within (rest_of p x), line-lt (rest_of p x) e))
+    said (Some (Ok k)) v = refl
+    said (Some (Err e)) v = refl
 
 -- x, a state of P's own reading, and y, of the reading of P then S
 module _ (p : List ℕ) (s : ℕ) (t : List ℕ) where
@@ -55,8 +55,8 @@ module _ (p : List ℕ) (s : ℕ) (t : List ℕ) where
     after : rest_of p x ≡ [] → Waits p s t x y
 
   -- their steps: P's own reading ends and S's begins, or both give one more answer
-  data Onward (a b : Step) : Type 0 where
-    over : a.answer ≡ End → HigherStep (breaks p) (length p) (step_rule (s ∷ t) fresh) b → Onward a b
+  data Onward (a b : Step State) : Type 0 where
+    over : a.answer ≡ None → HigherStep (breaks p) (length p) (step_rule (s ∷ t) fresh) b → Onward a b
     goes : is_end a.answer ≡ false → b.answer ≡ a.answer → Along a.state b.state → Onward a b
 
 module _ (p : List ℕ) (closed : Closed p) (s : ℕ) (t : List ℕ) (o : Top s) where
@@ -119,7 +119,7 @@ module _ (p : List ℕ) (closed : Closed p) (s : ℕ) (t : List ℕ) (o : Top s)
           ends = λ q n. over refl (first_step p s t o x y w c (w.depth ∙ omega arith));
           closes = λ q n.
               rw (closing-step p s t o x y w c f (omega (arith, w.depth)))
-              (goes refl (ap (λ l. Token (token.Outdent l)) (w.line ∙ sym (end_line x c e))) (closes e w (indent_at p x)));
+              (goes refl (ap (λ l. Some (Ok (token.Outdent l 0))) (w.line ∙ sym (end_line x c e))) (closes e w (indent_at p x)));
           line = λ b r q.
               let z : length (rest_of p x) ≡ 0 = ap length e in
               absurd (omega (arith, rest-size (size_of x.held (rest_of p x)) (rest_of p x) b r q));
@@ -131,12 +131,12 @@ module _ (p : List ℕ) (closed : Closed p) (s : ℕ) (t : List ℕ) (o : Top s)
 -- The readings
 
 module _ {p : List ℕ} {s : ℕ} {t : List ℕ} where
-  ended-on : {a b : Step} → a.answer ≡ End → Onward p s t a b → HigherStep (breaks p) (length p) (step_rule (s ∷ t) fresh) b
+  ended-on : {a b : Step State} → a.answer ≡ None → Onward p s t a b → HigherStep (breaks p) (length p) (step_rule (s ∷ t) fresh) b
   unfolding is_end
   ended-on e (over f h) = h
   ended-on e (goes n f a) = absurd (false≢true (sym n ∙ ap is_end e))
 
-  said-on : {a : Answer} {z : State} {b : Step} → is_end a ≡ false → Onward p s t (record { answer = a; state = z }) b
+  said-on : {a : Answer} {z : State} {b : Step State} → is_end a ≡ false → Onward p s t (record { answer = a; state = z }) b
       → (b.answer ≡ a) × Along p s t z b.state
   unfolding is_end
   said-on n (over e h) = absurd (false≢true (sym n ∙ ap is_end e))

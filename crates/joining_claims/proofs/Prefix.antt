@@ -1,5 +1,6 @@
 -- Before P's end both readings take the same steps: the plan of a state, and so its step, is the same whether a top-level line
 -- follows P or not.
+use Rattle.std.specs.Prelude.{Option, Some, None}
 use Prim.Native.Nat.{ℕ, zero, suc, ◌-◌, ◌≤◌}
 use mathlib.Core.Path.{◌≡◌, refl}
 use mathlib.Core.List.{List, [], ◌∷◌, ◌++◌}
@@ -7,7 +8,7 @@ use mathlib.Core.Bool.{false, false≢true}
 use native.Mathlib.Omega.{arith}
 use lib.ListN.{length, drop, get_or, length-drop}
 use lib.Seq.{take-append-le, drop-append-le}
-use Rattle.text.specs.Bytes.{is_blank, is_break, count_while, line_end}
+use Rattle.text.specs.Bytes.{is_blank, is_break, line_end}
 use Rattle.text.specs.Trimming.{dropped}
 use Rattle.text.specs.declared.bytes.Part.{Part}
 use Rattle.text.proofs.Cases.{by_bool}
@@ -30,10 +31,8 @@ use Rattle.tokenizer_rules.specs.Plan.{
 }
 use Rattle.tokenizer.specs.Step.{bytes_of, no_part, indent_of, size_of, inner_of, plan_with, step_with, step_rule}
 use Rattle.tokenizer_rules.specs.declared.plan.Marks.{Marks}
-use Rattle.tokenizer.specs.declared.state.Held.{Held}
-use Rattle.tokenizer.specs.declared.state.Held.TheVariants.{Nothing, At}
 use Rattle.tokenizer.specs.declared.state.State.{State}
-use Rattle.tokenizer_rules.proofs.Plans.{lines-le}
+use Rattle.tokenizer_rules.proofs.Plans.{lines_le}
 use Rattle.tokenizer_claims.specs.Claims.{Within}
 use Rattle.tokenizer_claims.proofs.Texts.{Indentation, no-indentation}
 use Rattle.tokenizer_claims.proofs.Sound.{rest_of, indent_at, Sound, indent-sound}
@@ -82,7 +81,7 @@ module _ (s : ℕ) (t : List ℕ) (o : Top s) where
     plain-same w h = rw (same-take (text-inline 59) (s ∷ t) w h, (text-inline 59).same (s ∷ t) w h)
 
     hint-same : (w : List ℕ) → Ended w → plan_hint m k (w ++ s ∷ t) ≡ plan_hint m k w
-    unfolding plan_hint count_while is_break
+    unfolding plan_hint is_break
     hint-same w h =
         rw (
           starts-same (34 ∷ []) (s ∷ t) w refl h,
@@ -91,7 +90,7 @@ module _ (s : ℕ) (t : List ℕ) (o : Top s) where
         )
 
     value_same : (w : List ℕ) → Ended w → plan_value m k (w ++ s ∷ t) ≡ plan_value m k w
-    unfolding plan_value begins_hint count_while is_break
+    unfolding plan_value begins_hint is_break
     value_same w h =
         rw (starts-same (34 ∷ 34 ∷ 34 ∷ []) (s ∷ t) w refl h)
         (by_bool (begins_hint w)
@@ -108,7 +107,7 @@ module _ (s : ℕ) (t : List ℕ) (o : Top s) where
   indented-same : (m : Marks) (depth : ℕ) (inner indent : List ℕ) → blanks indent ≡ length indent
       → (rest : List ℕ) → Ended rest → (k b : ℕ) (w : List ℕ) → Ended w
       → plan_indented m depth inner indent (rest ++ s ∷ t) k b (w ++ s ∷ t) ≡ plan_indented m depth inner indent rest k b w
-  unfolding plan_indented plan_multiline plan_open relation_of blanks dropped count_while
+  unfolding plan_indented plan_multiline plan_open relation_of blanks dropped
   indented-same m depth [] [] q rest g k b w h = entry-same (cleared m) k b w h
   indented-same m depth (a ∷ inner) [] q rest g k b w h = refl
   indented-same m depth inner (i ∷ indent) q rest g k b w h =
@@ -118,7 +117,7 @@ module _ (s : ℕ) (t : List ℕ) (o : Top s) where
         entry-same (cleared m) k b w h,
         line-inline.same (s ∷ t) w h,
         lines_same s t o i indent e rest (ended-closed rest g),
-        take-append-le (lines_of (i ∷ indent) rest).len rest (s ∷ t) (lines-le (i ∷ indent) rest),
+        take-append-le (lines_of (i ∷ indent) rest).len rest (s ∷ t) (lines_le (i ∷ indent) rest),
       ))
       (λ e. let z = rw e at q in absurd (omega arith))
 
@@ -150,17 +149,17 @@ inner-sound : (d : List ℕ) (is : List Part) → ((j : ℕ) → Indentation d (
 inner-sound d is x zero = no-indentation d
 inner-sound d is x (suc n) = x n
 
-indent-same : (h : Held) (n : ℕ) (r t : List ℕ) → Ended r → indent_of h n (r ++ t) ≡ indent_of h n r
-indent-same Nothing n r t e = rw (blanks-inline.same t r e)
-indent-same (At p) n r t e = refl
+indent-same : (h : Option Part) (n : ℕ) (r t : List ℕ) → Ended r → indent_of h n (r ++ t) ≡ indent_of h n r
+indent-same None n r t e = rw (blanks-inline.same t r e)
+indent-same (Some p) n r t e = refl
 
-size_same : (h : Held) (r t : List ℕ) → Ended r → size_of h (r ++ t) ≡ size_of h r
-size_same Nothing r t e = blanks-inline.same t r e
-size_same (At p) r t e = refl
+size_same : (h : Option Part) (r t : List ℕ) → Ended r → size_of h (r ++ t) ≡ size_of h r
+size_same None r t e = blanks-inline.same t r e
+size_same (Some p) r t e = refl
 
-pub size-line : (h : Held) (r : List ℕ) → size_of h r ≤ line_end r
-size-line Nothing r = blanks-inline.within r
-size-line (At p) r = omega arith
+pub size-line : (h : Option Part) (r : List ℕ) → size_of h r ≤ line_end r
+size-line None r = blanks-inline.within r
+size-line (Some p) r = omega arith
 
 module _ (s : ℕ) (t : List ℕ) (o : Top s) (p : List ℕ) (x : State) (f : Sound p x) (e : Ended (rest_of p x)) where
   plan-same : (k : ℕ) → k ≤ line_end (rest_of p x) → plan_with (p ++ s ∷ t) x (indent_at p x) k ≡ plan_with p x (indent_at p x) k

@@ -1,7 +1,12 @@
 -- The parser over a raised list says what it says of the list, raised: a ruling looks at no line and no place. Of the
 -- sections only the top level's keeps its line, 0. Two answers would not be raised: 15, whose line is 0, and an Outdent
 -- that closes the top level and so carries 0. So the list is one that has neither.
-use Prim.Native.Nat.{ℕ, ◌+◌}
+use Rattle.text.specs.declared.refusals.Refusal.TheVariants.{UnexpectedKey, UnexpectedItem}
+use Rattle.text.specs.declared.refusals.Refusal.{Refusal}
+use Rattle.text.specs.Numbers.{number_of}
+use Rattle.std.specs.Prelude.{Some, None, Ok, Err}
+use Rattle.tokenizer.specs.Token.{Answer as Came, Answer}
+use Prim.Native.Nat.{ℕ, ◌+◌, zero, suc, ◌<◌}
 use mathlib.Core.Path.{◌≡◌, refl, sym, ap}
 use mathlib.Core.List.{List, [], ◌∷◌, ◌++◌, map, map-append}
 use mathlib.Core.Bool.{Bool, true, false, cond}
@@ -20,12 +25,8 @@ use Rattle.tokenizer.specs.declared.token.Token.TheVariants.{
   MultilineValue,
   NoValue,
 }
-use Rattle.tokenizer.specs.declared.state.Answer.{Answer as Came}
-use Rattle.tokenizer.specs.declared.state.Answer.TheVariants as came
 use Rattle.parser_rules.specs.Ruling.{clashes, on_entry, on_outdent, on_indent, settled, after_entry, after_hint, on_token, on_end, ruling_of}
 use Rattle.parser.specs.Lists.{Stand, innermost, stack_after, Fed, fed_once, before, ruled, fed_twice, fed_by, feed, parsed}
-use Rattle.parser_rules.specs.declared.ruling.Answer.{Answer}
-use Rattle.parser_rules.specs.declared.ruling.Answer.TheVariants as answer
 use Rattle.parser_rules.specs.declared.ruling.Sort.{Sort}
 use Rattle.parser_rules.specs.declared.ruling.Awaited.{Awaited}
 use Rattle.parser_rules.specs.declared.ruling.Awaited.TheVariants as awaited
@@ -36,13 +37,12 @@ use Rattle.parser_rules.specs.declared.ruling.Change.TheVariants.{Keep, Fix, Ope
 use Rattle.parser_rules.specs.declared.ruling.Verdict.{Verdict}
 use Rattle.parser_rules.specs.declared.ruling.Ruling.{Ruling}
 use Rattle.parser_rules.specs.declared.ruling.Ruling.TheVariants.{Says, End, Unfit}
-use Rattle.parser.specs.declared.state.Section.{Section}
+use Rattle.parser_rules.specs.declared.ruling.Section.{Section}
 use Rattle.parser_claims.specs.Claims.{All}
 use Rattle.parser_claims.specs.Opened.{Carries}
 use Rattle.parser_claims.proofs.Rulings.{stand}
 use Rattle.parser_claims.proofs.Given.{Entry, item, key, passes, enters, opens, closes}
 use Rattle.joining_claims.specs.Raising.{raise_token, raise_opened, raise, raised}
-use Rattle.joining_claims.specs.Joined.{raise_answer}
 use Rattle.joining_claims.proofs.Tops.{level, Turn, misses, moves}
 use Rattle.joining_claims.proofs.Ruled.{Keeps, Turns, ruling-turns}
 
@@ -64,7 +64,7 @@ raise_kept l n (kept.Token t) = kept.Token (raise_token l n t)
 
 abbrev raise_verdict : ℕ → ℕ → Verdict → Verdict
 raise_verdict l n v = record {
-  answer = raise_answer l n v.answer;
+  answer = raise l n v.answer;
   awaited = raise_awaited l v.awaited;
   change = raise_change l v.change;
   kept = raise_kept l n v.kept;
@@ -88,9 +88,9 @@ high l w b = stand (raise_awaited l w) b
 
 -- an answer to whose lines raising adds
 abbrev pub Rises : Answer → Type 0
-Rises answer.End = Unit {0}
-Rises (answer.Token t o) = Carries (answer.Token t o)
-Rises (answer.Refused r m) = r ≡ 15 → ⊥
+Rises None = Unit {0}
+Rises (Some (Ok t)) = Carries (Some (Ok t))
+Rises (Some (Err e)) = number_of e.refusal ≡ 15 → ⊥
 
 abbrev RulingRises : Ruling → Type 0
 RulingRises (Says v) = Rises v.answer
@@ -100,42 +100,42 @@ RulingRises Unfit = ⊥
 -- One ruling
 
 module _ (l n : ℕ) where
-  entry-opened : {t : Token} {m : ℕ} {s : Sort} → Entry t m s → raise_opened l t 0 ≡ 0
-  entry-opened item = refl
-  entry-opened key = refl
-
-  entry-raised : {a b : List Section} {t : Token} {m : ℕ} {s : Sort} → Raised l a b → Entry t m s → (r : ℕ)
+  entry-raised : {a b : List Section} {t : Token} {m : ℕ} {s : Sort} → Raised l a b → Entry t m s → (r : Refusal)
       → on_entry (raise_token l n t) (l + m) s r (innermost b) ≡ raise_ruling l n (on_entry t m s r (innermost a))
-  unfolding on_entry raise_answer
-  entry-raised {s = s} (top {s = j}) e r = by_bool (clashes j s) (λ c. rw c) (λ c. rw (c, entry-opened e))
-  entry-raised {s = s} (above {s = j} x) e r = by_bool (clashes j.sort s) (λ c. rw c) (λ c. rw (c, entry-opened e))
+  unfolding on_entry raise
+  entry-raised {s = s} (top {s = j}) e r = by_bool (clashes j s) (λ c. rw c) (λ c. rw c)
+  entry-raised {s = s} (above {s = j} x) e r = by_bool (clashes j.sort s) (λ c. rw c) (λ c. rw c)
 
-  outdent-raised : {a b : List Section} → Raised l a b → (m : ℕ) → RulingRises (on_outdent (Outdent m) (innermost a))
-      → on_outdent (Outdent (l + m)) (innermost b) ≡ raise_ruling l n (on_outdent (Outdent m) (innermost a))
-  unfolding on_outdent raise_token raise_answer
+  opened-raised : (o : ℕ) → 0 < o → l + o ≡ raise_opened l o
+  opened-raised zero h = absurd (omega arith)
+  opened-raised (suc o) h = refl
+
+  outdent-raised : {a b : List Section} → Raised l a b → (m : ℕ) → RulingRises (on_outdent m (innermost a))
+      → on_outdent (l + m) (innermost b) ≡ raise_ruling l n (on_outdent m (innermost a))
+  unfolding on_outdent raise_token raise
   outdent-raised top m e = absurd (omega arith)
-  outdent-raised (above x) m e = refl
+  outdent-raised (above {s = s} x) m e = rw (opened-raised s.line e)
 
   settled-raised : {a b : List Section} → Raised l a b → (t : Token) → RulingRises (settled (innermost a) t)
       → settled (innermost b) (raise_token l n t) ≡ raise_ruling l n (settled (innermost a) t)
-  unfolding settled raise_token raise_answer
+  unfolding settled raise_token raise
   settled-raised x (Newline m) e = refl
   settled-raised x (Comment m p) e = refl
   settled-raised x (Indent m) e = refl
-  settled-raised x (Outdent m) e = outdent-raised x m e
-  settled-raised x (ListItem m) e = entry-raised x item 6
-  settled-raised x (MapKey m p) e = entry-raised x key 5
+  settled-raised x (Outdent m o) e = outdent-raised x m e
+  settled-raised x (ListItem m) e = entry-raised x item UnexpectedItem
+  settled-raised x (MapKey m p) e = entry-raised x key UnexpectedKey
   settled-raised x (Value m p) e = refl
   settled-raised x (MultilineHint m p) e = refl
   settled-raised x (MultilineValue m q p) e = refl
   settled-raised x (NoValue m) e = refl
 
   entered-raised : (k : ℕ) (t : Token) → after_entry (l + k) false (raise_token l n t) ≡ raise_ruling l n (after_entry k false t)
-  unfolding after_entry on_indent raise_token raise_answer
+  unfolding after_entry on_indent raise_token raise
   entered-raised k (Newline m) = refl
   entered-raised k (Comment m p) = refl
   entered-raised k (Indent m) = refl
-  entered-raised k (Outdent m) = refl
+  entered-raised k (Outdent m o) = refl
   entered-raised k (ListItem m) = refl
   entered-raised k (MapKey m p) = refl
   entered-raised k (Value m p) = refl
@@ -144,11 +144,11 @@ module _ (l n : ℕ) where
   entered-raised k (NoValue m) = refl
 
   hinted-raised : (k : ℕ) (t : Token) → after_hint (l + k) (raise_token l n t) ≡ raise_ruling l n (after_hint k t)
-  unfolding after_hint raise_token raise_answer
+  unfolding after_hint raise_token raise
   hinted-raised k (Newline m) = refl
   hinted-raised k (Comment m p) = refl
   hinted-raised k (Indent m) = refl
-  hinted-raised k (Outdent m) = refl
+  hinted-raised k (Outdent m o) = refl
   hinted-raised k (ListItem m) = refl
   hinted-raised k (MapKey m p) = refl
   hinted-raised k (Value m p) = refl
@@ -158,14 +158,14 @@ module _ (l n : ℕ) where
 
   ruling-raised : (w : Awaited) {a b : List Section} → Raised l a b → (c : Came) → RulingRises (ruled (stand w a) c)
       → ruled (high l w b) (raise l n c) ≡ raise_ruling l n (ruled (stand w a) c)
-  unfolding ruling_of on_token on_end raise raise_answer raise_token
-  ruling-raised awaited.Nothing x came.End e = refl
-  ruling-raised (awaited.Value k) x came.End e = refl
-  ruling-raised (awaited.Multiline k) x came.End e = refl
-  ruling-raised awaited.Nothing x (came.Token t) e = settled-raised x t e
-  ruling-raised (awaited.Value k) x (came.Token t) e = entered-raised k t
-  ruling-raised (awaited.Multiline k) x (came.Token t) e = hinted-raised k t
-  ruling-raised w x (came.Refused r m) e = refl
+  unfolding ruling_of on_token on_end raise raise_token
+  ruling-raised awaited.Nothing x None e = refl
+  ruling-raised (awaited.Value k) x None e = refl
+  ruling-raised (awaited.Multiline k) x None e = refl
+  ruling-raised awaited.Nothing x (Some (Ok t)) e = settled-raised x t e
+  ruling-raised (awaited.Value k) x (Some (Ok t)) e = entered-raised k t
+  ruling-raised (awaited.Multiline k) x (Some (Ok t)) e = hinted-raised k t
+  ruling-raised w x (Some (Err y)) e = refl
 
 -- its answer is the first of those that are said
 once-rises : (s : Stand) (r : Ruling) → All Rises (fed_once s r).says → RulingRises r
@@ -192,14 +192,14 @@ after-raised x (moves (passes p f)) e = x
 after-raised x (moves (opens q)) e = above x
 after-raised top (moves (enters p q c)) e = top
 after-raised (above x) (moves (enters p q c)) e = above x
-after-raised top (moves (closes {o = o} q)) e = let z : 0 ≡ o = cc in absurd (omega arith)
+after-raised top (moves (closes {j = j} q)) e = let z : 0 ≡ j.line = cc in absurd (omega arith)
 after-raised (above x) (moves (closes q)) e = x
 
 -- One answer of the tokenizer
 
 abbrev raise_fed : ℕ → ℕ → List Section → Fed → Fed
 raise_fed l n b f = record {
-  says = map (raise_answer l n) f.says;
+  says = map (raise l n) f.says;
   next = high l f.next.awaited b;
   goes_on = f.goes_on;
 }
@@ -224,13 +224,13 @@ module _ (l n : ℕ) where
   again-raised : (w : Awaited) {a b : List Section} → Raised l a b → (y : Answer) (c : Came)
       → All Rises (fed_once (stand w a) (ruled (stand w a) c)).says
       → RaisedFed l n (before y (fed_once (stand w a) (ruled (stand w a) c)))
-      (before (raise_answer l n y) (fed_once (high l w b) (ruled (high l w b) (raise l n c))))
+      (before (raise l n y) (fed_once (high l w b) (ruled (high l w b) (raise l n c))))
   again-raised w {a} x y c e =
       let r = ruled (stand w a) c in
       let i = once-rises (stand w a) r e in
       let h = once-raised w x r (ruling-turns a w c) i in
       rw (ruling-raised l n w x c i)
-      (record { sections = h.sections; same = ap (before (raise_answer l n y)) h.same; raised = h.raised })
+      (record { sections = h.sections; same = ap (before (raise l n y)) h.same; raised = h.raised })
 
   twice-raised : (w : Awaited) {a b : List Section} → Raised l a b → (k : Kept) (v : Verdict) → Turns a (Says v) → Keeps k v
       → All Rises (fed_twice (stand w a) k v).says
@@ -238,9 +238,9 @@ module _ (l n : ℕ) where
   unfolding raise
   twice-raised w x kept.Nothing v t g e = once-raised w x (Says v) t e.0
   twice-raised w x kept.End v t g e =
-      again-raised v.awaited (after-raised x (t.1 g.0) e.0) v.answer came.End e.1
+      again-raised v.awaited (after-raised x (t.1 g.0) e.0) v.answer None e.1
   twice-raised w x (kept.Token y) v t g e =
-      again-raised v.awaited (after-raised x (t.1 g.0) e.0) v.answer (came.Token y) e.1
+      again-raised v.awaited (after-raised x (t.1 g.0) e.0) v.answer (Some (Ok y)) e.1
 
   by-raised : (w : Awaited) {a b : List Section} → Raised l a b → (r : Ruling) → Turns a r → All Rises (fed_by (stand w a) r).says
       → RaisedFed l n (fed_by (stand w a) r) (fed_by (high l w b) (raise_ruling l n r))
@@ -263,18 +263,18 @@ rises-append (a ∷ l) m e = let i = rises-append l m e.1 in ((e.0, i.0), i.1)
 
 module _ (l n : ℕ) where
   pub parsed-raised : (w : Awaited) {a b : List Section} → Raised l a b → (cs : List Came) → All Rises (parsed (stand w a) cs)
-      → parsed (high l w b) (raised l n cs) ≡ map (raise_answer l n) (parsed (stand w a) cs)
+      → parsed (high l w b) (raised l n cs) ≡ map (raise l n) (parsed (stand w a) cs)
   unfolding parsed raise
-  parsed-raised w x [] e = ap (λ (f : Fed). f.says) (feed-raised l n w x came.End e).same
+  parsed-raised w x [] e = ap (λ (f : Fed). f.says) (feed-raised l n w x None e).same
   parsed-raised w {a} x (c ∷ cs) e =
       let f = feed (stand w a) c in
       let u = rises-append f.says _ e in
       let h = feed-raised l n w x c u.0 in
-      rw (h.same, map-append (raise_answer l n) f.says _)
-      (ap (λ (m : List Answer). map (raise_answer l n) f.says ++ m)
+      rw (h.same, map-append (raise l n) f.says _)
+      (ap (λ (m : List Answer). map (raise l n) f.says ++ m)
       (rest f.goes_on _ (λ g. parsed-raised f.next.awaited (h.raised g) cs) u.1))
     where
-      rest : (on : Bool) (s : List Answer) {r : List Answer} → (on ≡ true → All Rises s → r ≡ map (raise_answer l n) s)
-          → All Rises (cond on s []) → cond on r [] ≡ map (raise_answer l n) (cond on s [])
+      rest : (on : Bool) (s : List Answer) {r : List Answer} → (on ≡ true → All Rises s → r ≡ map (raise l n) s)
+          → All Rises (cond on s []) → cond on r [] ≡ map (raise l n) (cond on s [])
       rest true s h e = h refl e
       rest false s h e = refl

@@ -1,12 +1,12 @@
 -- Every ruling that says something refuses exactly where its answer is a refusal, else is a turn of the sections; and what is kept
 -- is kept behind a NoValue.
+use Rattle.std.specs.Prelude.{Some, None, Ok, Err}
+use Rattle.tokenizer.specs.Token.{Answer as Came}
 use mathlib.Core.Path.{◌≡◌, refl}
 use mathlib.Core.List.{List, [], ◌∷◌}
 use mathlib.Core.Bool.{true, false}
 use Rattle.text.proofs.Cases.{clash}
 use Rattle.tokenizer.specs.declared.token.Token.{Token}
-use Rattle.tokenizer.specs.declared.state.Answer.{Answer as Came}
-use Rattle.tokenizer.specs.declared.state.Answer.TheVariants as came
 use Rattle.parser_rules.specs.Ruling.{on_end, ruling_of}
 use Rattle.parser.specs.Lists.{innermost, refused_in}
 use Rattle.parser_rules.specs.declared.ruling.Awaited.{Awaited}
@@ -17,7 +17,7 @@ use Rattle.parser_rules.specs.declared.ruling.Change.TheVariants.{Keep}
 use Rattle.parser_rules.specs.declared.ruling.Verdict.{Verdict}
 use Rattle.parser_rules.specs.declared.ruling.Ruling.{Ruling}
 use Rattle.parser_rules.specs.declared.ruling.Ruling.TheVariants.{Says, End, Unfit}
-use Rattle.parser.specs.declared.state.Section.{Section}
+use Rattle.parser_rules.specs.declared.ruling.Section.{Section}
 use Rattle.parser_claims.proofs.Given.{Given, gives, stops, unfit, Ruled, once, keeps, on-token}
 use Rattle.joining_claims.proofs.Tops.{Turn, misses, moves}
 
@@ -51,8 +51,8 @@ module _ (sections : List Section) where
 
   pub ruling-turns : (a : Awaited) (c : Came) → Turns sections (ruling_of a (innermost sections) false c)
   unfolding ruling_of on_end refused_in
-  ruling-turns awaited.Nothing came.End = tt
-  ruling-turns (awaited.Value k) came.End = (refl, λ g. misses, (refl, refl))
-  ruling-turns (awaited.Multiline k) came.End = (refl, stopped, tt)
-  ruling-turns a (came.Token t) = ruled-turns (on-token a (innermost sections) t)
-  ruling-turns a (came.Refused r m) = (refl, stopped, tt)
+  ruling-turns awaited.Nothing None = tt
+  ruling-turns (awaited.Value k) None = (refl, λ g. misses, (refl, refl))
+  ruling-turns (awaited.Multiline k) None = (refl, stopped, tt)
+  ruling-turns a (Some (Ok t)) = ruled-turns (on-token a (innermost sections) t)
+  ruling-turns a (Some (Err e)) = (refl, stopped, tt)

@@ -1,5 +1,7 @@
 -- The sort of the top level: what the parser keeps for it at the bottom of its sections is the sort of the first top-level entry
 -- among its answers.
+use Rattle.std.specs.Prelude.{Some, Ok}
+use Rattle.tokenizer.specs.Token.{Answer}
 use Prim.Native.Nat.{ℕ, suc, ◌+◌, ◌<◌}
 use mathlib.Core.Path.{◌≡◌, refl, sym, ap, subst, ◌∙◌}
 use mathlib.Core.List.{List, [], ◌∷◌, ◌++◌}
@@ -14,15 +16,12 @@ use Rattle.tokenizer.specs.declared.token.Token.TheVariants.{Outdent, NoValue}
 use Rattle.parser_rules.specs.Ruling.{clashes}
 use Rattle.parser.specs.Step.{unsorted, no_sort}
 use Rattle.parser.specs.Lists.{innermost, stack_after, top_entries, entry_sort, sort_of, top_sort}
-use Rattle.parser_rules.specs.declared.ruling.Answer.{Answer}
-use Rattle.parser_rules.specs.declared.ruling.Answer.TheVariants as answer
 use Rattle.parser_rules.specs.declared.ruling.Sort.{Sort}
 use Rattle.parser_rules.specs.declared.ruling.Sort.TheVariants.{Unset, Map, List as Listed}
 use Rattle.parser_rules.specs.declared.ruling.Awaited.{Awaited}
-use Rattle.parser_rules.specs.declared.ruling.Innermost.TheVariants.{Of}
 use Rattle.parser_rules.specs.declared.ruling.Change.{Change}
 use Rattle.parser_rules.specs.declared.ruling.Change.TheVariants.{Keep, Fix, Close}
-use Rattle.parser.specs.declared.state.Section.{Section}
+use Rattle.parser_rules.specs.declared.ruling.Section.{Section}
 use Rattle.parser_claims.proofs.Given.{
   Plain,
   newline,
@@ -47,9 +46,9 @@ level s = record { sort = s; line = 0 }
 
 -- what is said, a NoValue or a token that is given on, and what it does to the sections
 pub data Turn (sections : List Section) : Answer → Change → Type 0 where
-  misses : {l : ℕ} → Turn sections (answer.Token (NoValue l) 0) Keep
-  moves : {w : Awaited} {x : Token} {o : ℕ} {a : Awaited} {c : Change} → Moves w (innermost sections) x o a c
-      → Turn sections (answer.Token x o) c
+  misses : {l : ℕ} → Turn sections (Some (Ok (NoValue l))) Keep
+  moves : {w : Awaited} {x y : Token} {a : Awaited} {c : Change} → Moves w (innermost sections) x y a c
+      → Turn sections (Some (Ok y)) c
 
 -- the answers of a list, each with the sections after it, of which one is always left
 pub data Runs : List Section → List Answer → List Section → Type 0 where
@@ -92,12 +91,12 @@ entry-sort item = refl
 entry-sort key = refl
 
 entry_top : {t : Token} {m : ℕ} {s : Sort} → Entry t m s → (i o : ℕ) (l : List Answer)
-    → top_entries i o (answer.Token t 0 ∷ l) ≡ cond (eqb i o) (t ∷ top_entries i o l) (top_entries i o l)
+    → top_entries i o (Some (Ok t) ∷ l) ≡ cond (eqb i o) (t ∷ top_entries i o l) (top_entries i o l)
 unfolding top_entries
 entry_top item i o l = refl
 entry_top key i o l = refl
 
-plain-none : {t : Token} → Plain t → (i o : ℕ) (l : List Answer) → top_entries i o (answer.Token t 0 ∷ l) ≡ top_entries i o l
+plain-none : {t : Token} → Plain t → (i o : ℕ) (l : List Answer) → top_entries i o (Some (Ok t) ∷ l) ≡ top_entries i o l
 unfolding top_entries
 plain-none newline i o l = refl
 plain-none comment i o l = refl
@@ -126,7 +125,7 @@ after_none {i = i} {o = o} {s = s} a l q t = record { ins = i; outs = o; sort = 
 
 after-close : (inner : List Section) (s : Sort) (i o m k : ℕ) (l : List Answer) → i ≡ o + length inner
     → 0 < length (stack_after Close (inner ++ level s ∷ []))
-    → Left (stack_after Close (inner ++ level s ∷ [])) i o s (answer.Token (Outdent m) k) l
+    → Left (stack_after Close (inner ++ level s ∷ [])) i o s (Some (Ok (Outdent m k))) l
 unfolding top_entries
 after-close [] s i o m k l e h = absurd (omega arith)
 after-close (x ∷ inner) s i o m k l e h = record {
@@ -139,10 +138,10 @@ after-close (x ∷ inner) s i o m k l e h = record {
 }
 
 module _ {t : Token} {m : ℕ} {r : Sort} (f : Entry t m r) where
-  after-fix : (inner : List Section) (s j : Sort) (k i o : ℕ) (l : List Answer) → innermost (inner ++ level s ∷ []) ≡ Of j k
-      → clashes j r ≡ false → i ≡ o + length inner → Left (stack_after (Fix r) (inner ++ level s ∷ [])) i o s (answer.Token t 0) l
-  after-fix [] s j k i o l q e c =
-      let same : s ≡ j = cc in
+  after-fix : (inner : List Section) (s : Sort) (j : Section) (i o : ℕ) (l : List Answer) → innermost (inner ++ level s ∷ []) ≡ Some j
+      → clashes j.sort r ≡ false → i ≡ o + length inner → Left (stack_after (Fix r) (inner ++ level s ∷ [])) i o s (Some (Ok t)) l
+  after-fix [] s j i o l q e c =
+      let same : s ≡ j.sort = cc in
       let stays = chosen-stays f (sort_of (top_entries i o l)) in
       record {
         ins = i;
@@ -152,7 +151,7 @@ module _ {t : Token} {m : ℕ} {r : Sort} (f : Entry t m r) where
         rest = rw (entry_top f i o l, eq-eqb i o (omega arith), entry-sort f) (chosen-fixed f s (rw same e) ∙ sym stays);
         each = λ z q h. rw (entry_top f i o l, eq-eqb i o (omega arith)) (entry-sort f ∙ sym (q ∙ stays), h);
       }
-  after-fix (x ∷ inner) s j k i o l q e c = record {
+  after-fix (x ∷ inner) s j i o l q e c = record {
     ins = i;
     outs = o;
     sort = s;
@@ -174,10 +173,10 @@ turn-top {i = i} {o = o} {s = s} (moves (opens {n = n} q)) t h l = record {
   rest = refl;
   each = λ z q e. e;
 }
-turn-top {i = i} {o = o} {s = s} (moves (closes {l = m} {o = k} q)) t h l =
-    rw t.split (after-close t.inner s i o m k l t.count (rw t.split at h))
-turn-top {i = i} {o = o} {s = s} (moves (enters {o = k} {j = j} f q e)) t h l =
-    rw t.split (after-fix f t.inner s j k i o l (rw t.split at q) e t.count)
+turn-top {i = i} {o = o} {s = s} (moves (closes {l = m} {j = k} q)) t h l =
+    rw t.split (after-close t.inner s i o m k.line l t.count (rw t.split at h))
+turn-top {i = i} {o = o} {s = s} (moves (enters {j = j} f q e)) t h l =
+    rw t.split (after-fix f t.inner s j i o l (rw t.split at q) e t.count)
 
 -- along a list
 runs-top : {sections after : List Section} {l : List Answer} → Runs sections l after → (i o : ℕ) (s : Sort) → Top sections i o s

@@ -1,5 +1,7 @@
 -- Demand 3, clause 2: a token of a reading unescapes alike in P then S and, unraised, in P or S alone. Its text's bytes are the
 -- same, so its meaning is; only the place and the line at which it is delivered differ.
+use Rattle.std.specs.Prelude.{Some, None, Ok, Err}
+use Rattle.tokenizer.specs.Token.{Answer as Came, line_of}
 use Prim.Native.Nat.{ℕ, ◌+◌, ◌-◌, ◌≤◌}
 use mathlib.Core.Path.{◌≡◌, refl, ◌∙◌}
 use mathlib.Core.List.{List, [], ◌∷◌, ◌++◌}
@@ -9,7 +11,6 @@ use lib.Dec.{leb}
 use lib.ListN.{length, drop, length-append, length-take}
 use Rattle.text.specs.declared.bytes.Part.{Part}
 use Rattle.text.proofs.Cases.{by_bool}
-use Rattle.tokenizer.specs.Token.{line_of}
 use Rattle.tokenizer.specs.Lists.{tokens}
 use Rattle.tokenizer.specs.Step.{bytes_of, no_part}
 use Rattle.tokenizer.specs.declared.token.Token.{Token}
@@ -25,18 +26,17 @@ use Rattle.tokenizer.specs.declared.token.Token.TheVariants.{
   MultilineValue,
   NoValue,
 }
-use Rattle.tokenizer.specs.declared.state.Answer.{Answer as Came}
-use Rattle.tokenizer.specs.declared.state.Answer.TheVariants as came
 use Rattle.tokenizer_claims.specs.Claims.{Text, TokenFits, Fits, All}
 use Rattle.tokenizer_claims.proofs.Claimed.{fit as reading-fit}
 use Rattle.text.specs.Bytes.{shifted_by}
-use Rattle.unescape_pieces.specs.Meaning.{Meaning, part, bytes, code, refused, meaning}
+use Rattle.unescape_pieces.specs.Meaning.{Meaning, part, bytes, refused, meaning}
+use Rattle.unescape_pieces.specs.declared.fault.Fault.TheVariants.{InvalidEscape, EscapeAtEnd, ExtraCharacters, UnclosedQuotes}
 use Rattle.unescape_source.specs.Source.{source_at, source_of, meaning_in}
 use Rattle.unescape_pieces.specs.declared.start.Style.{Style}
 use Rattle.unescape_pieces.specs.declared.start.Style.TheVariants.{AsIs, Entry, Block}
 use Rattle.unescape_pieces.proofs.Proper.{Proper, meaning-proper}
 use Rattle.unescape.specs.Unescape.{Unescaped, delivered, unescape_of}
-use Rattle.unescape.specs.declared.Answer.TheVariants.{Plain}
+use Rattle.unescape.specs.declared.answer.Answer.TheVariants.{Plain}
 use Rattle.unescape_claims.proofs.Readable.{none-text, texts-fit, texts-read}
 use Rattle.joining_claims.specs.Raising.{raise_token}
 use Rattle.joining_claims.specs.Alike.{Same, Alike}
@@ -60,8 +60,7 @@ buffer-same : (m : Meaning) (a b k l : ℕ) (o : List ℕ) → (delivered m a b 
 unfolding delivered
 buffer-same (part x y) a b k l o = refl
 buffer-same (bytes w) a b k l o = by_bool (leb (length w) (length o)) (λ e. rw e) (λ e. rw e)
-buffer-same (code x y) a b k l o = refl
-buffer-same (refused r) a b k l o = refl
+buffer-same (refused f) a b k l o = refl
 
 module _ (p s : List ℕ) where
   -- at the same place of P then S and of P
@@ -71,8 +70,10 @@ module _ (p s : List ℕ) where
   answer-above (part a e) k l n o h f = part-above p s (record { start = k + a; end = k + e }) (omega arith) (omega arith)
   answer-above (bytes w) k l n o h f =
       by_bool (leb (length w) (length o)) (λ e. rw e refl) (λ e. rw e (refl, omega arith, refl))
-  answer-above (code a e) k l n o h f = (refl, omega arith, rw (zero-add, zero-add))
-  answer-above (refused r) k l n o h f = (refl, omega arith, rw h.0)
+  answer-above (refused (InvalidEscape q)) k l n o h f = (refl, omega arith, rw (zero-add, zero-add))
+  answer-above (refused EscapeAtEnd) k l n o h f = (refl, omega arith, refl)
+  answer-above (refused ExtraCharacters) k l n o h f = (refl, omega arith, refl)
+  answer-above (refused UnclosedQuotes) k l n o h f = (refl, omega arith, refl)
 
   -- at a place of S and, raised, of P then S
   answer-below : (m : Meaning) (k l j n : ℕ) (o : List ℕ) → Proper n m
@@ -81,8 +82,10 @@ module _ (p s : List ℕ) where
   answer-below (part a e) k l j n o h = rw (add_assoc, add_assoc) (part-below p s (record { start = k + a; end = k + e }))
   answer-below (bytes w) k l j n o h =
       by_bool (leb (length w) (length o)) (λ e. rw e refl) (λ e. rw e (refl, refl, refl))
-  answer-below (code a e) k l j n o h = (refl, refl, rw (add_assoc, add_assoc))
-  answer-below (refused r) k l j n o h = (refl, refl, rw h.0)
+  answer-below (refused (InvalidEscape q)) k l j n o h = (refl, refl, rw (add_assoc, add_assoc))
+  answer-below (refused EscapeAtEnd) k l j n o h = (refl, refl, refl)
+  answer-below (refused ExtraCharacters) k l j n o h = (refl, refl, refl)
+  answer-below (refused UnclosedQuotes) k l j n o h = (refl, refl, refl)
 
   -- Tokens of P
 
@@ -166,7 +169,7 @@ module _ (p s : List ℕ) where
 
   -- a token without a text keeps its empty part at 0
   none-delivered : (d : List ℕ) (t : Token) (o : List ℕ) → source_of t ≡ source_at AsIs no_part → length d ≤ 16777216
-      → unescape_of d t o ≡ record { answer = Plain no_part; buffer = o }
+      → unescape_of d t o ≡ record { answer = Ok (Plain no_part); buffer = o }
   unfolding deliver meaning delivered
   none-delivered d t o x l = unescaped d t o l (rw x (none-text d, none-text d)) ∙ rw x
 
@@ -185,7 +188,7 @@ module _ (p s : List ℕ) where
   token-below j (Newline m) l f = bare_alike j _ _ refl refl l
   token-below j (Comment m q) l f = texted-alike j _ _ AsIs q refl refl refl f l
   token-below j (Indent m) l f = bare_alike j _ _ refl refl l
-  token-below j (Outdent m) l f = bare_alike j _ _ refl refl l
+  token-below j (Outdent m o) l f = bare_alike j _ _ refl refl l
   token-below j (ListItem m) l f = bare_alike j _ _ refl refl l
   token-below j (MapKey m q) l f = texted-alike j _ _ Entry q refl refl refl f l
   token-below j (Value m q) l f = texted-alike j _ _ Entry q refl refl refl f l
@@ -199,16 +202,18 @@ module _ (p s : List ℕ) where
 -- every token of a reading fits
 pub each-token : (d : List ℕ) (F : Token → Type 0) → ((t : Token) → TokenFits d t → F t) → (l : List Came) → All (Fits d) l → EachToken F l
 each-token d F h [] a = tt
-each-token d F h (came.End ∷ l) a = absurd a.0
-each-token d F h (came.Token t ∷ l) a = (h t a.0, each-token d F h l a.1)
-each-token d F h (came.Refused n m ∷ l) a = each-token d F h l a.1
+each-token d F h (None ∷ l) a = absurd a.0
+each-token d F h (Some (Ok t) ∷ l) a = (h t a.0, each-token d F h l a.1)
+each-token d F h (Some (Err e) ∷ l) a = each-token d F h l a.1
 
 delivered-not13 : (m : Meaning) (n k l : ℕ) (o : List ℕ) → Proper n m → Not13 (delivered m k l o).answer
 unfolding delivered
 delivered-not13 (part a e) n k l o h = tt
 delivered-not13 (bytes w) n k l o h = by_bool (leb (length w) (length o)) (λ e. rw e tt) (λ e. rw e refl)
-delivered-not13 (code a e) n k l o h = refl
-delivered-not13 (refused r) n k l o h = h.1
+delivered-not13 (refused (InvalidEscape p)) n k l o h = refl
+delivered-not13 (refused EscapeAtEnd) n k l o h = refl
+delivered-not13 (refused ExtraCharacters) n k l o h = refl
+delivered-not13 (refused UnclosedQuotes) n k l o h = refl
 
 token-not13 : (d : List ℕ) (t : Token) → length d ≤ 16777216 → TokenFits d t → (o : List ℕ) → Not13 (unescape_of d t o).answer
 unfolding deliver

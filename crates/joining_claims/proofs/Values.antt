@@ -10,7 +10,7 @@ use lib.Dec.{eqb, eqb-zero-suc}
 use lib.ListN.{length, take, drop}
 use lib.Seq.{take-append-le}
 use borrow.Author.Tests.{eqb-true, not-true, not-false}
-use Rattle.text.specs.Bytes.{is_blank, is_break, break_size, count_while, starts_with}
+use Rattle.text.specs.Bytes.{is_blank, is_break, break_size, starts_with}
 use Rattle.text.specs.Trimming.{dropped}
 use Rattle.text.proofs.Cases.{by_bool}
 use Rattle.tokenizer_scans.specs.Scans.{piece, is_void, belongs_to, multiline_end, breaks_after, breaks, ends_in_break, line_count, lines_of}
@@ -51,7 +51,7 @@ module _ (s : ℕ) (t : List ℕ) (o : Top s) where
   module _ (i : ℕ) (indent : List ℕ) (blank : is_blank i ≡ true) where
     -- a top-level line is no piece of an indented value
     outside : belongs_to (i ∷ indent) (piece (s ∷ t)) ≡ false
-    unfolding belongs_to piece starts_with is_void count_while dropped
+    unfolding belongs_to piece starts_with is_void dropped
     outside =
         by_bool (eqb i s)
         (λ e. absurd (true≢false (sym blank ∙ ap is_blank (eqb-true i s e) ∙ o.no-blank)))
@@ -97,7 +97,7 @@ module _ (indent : List ℕ) where
 
   -- a lone LF is a piece of every value
   takes-lf : (r : List ℕ) → belongs_to indent (piece (10 ∷ r)) ≡ true
-  unfolding belongs_to piece is_void count_while dropped is_break is_blank
+  unfolding belongs_to piece is_void dropped is_break is_blank
   takes-lf r = or-true (starts_with indent (10 ∷ []))
 
   -- so it does not end between CR and LF

@@ -1,9 +1,9 @@
 -- What the functions over places need: the bytes of a word, and how far the words before the first hit have counted.
-use Prim.Native.Nat.{ℕ, zero, suc, ◌+◌, ◌-◌, ◌*◌, ◌/◌, ◌^◌, ◌≤◌, ◌<◌}
+use Prim.Native.Nat.{ℕ, zero, suc, ◌+◌, ◌*◌, ◌/◌, ◌^◌, ◌≤◌, ◌<◌}
 use mathlib.Core.Path.{◌≡◌, refl, sym, ap, ◌∙◌}
 use mathlib.Core.List.{List}
 use mathlib.Core.Bool.{Bool, true, false, cond}
-use native.Mathlib.Nat.{add-zero, add_assoc, lt_of_not-le, min-eq_left, min-eq_right}
+use native.Mathlib.Nat.{lt_of_not-le, min-eq_left, min-eq_right}
 use native.Mathlib.Omega.{arith}
 use lib.Count.{count_trailing_zeros, trailing_le}
 use lib.Bits.{bit_or, and_le_l, and_le_r, or_add_and, or_zero_l}
@@ -14,17 +14,6 @@ use Rattle.text_scans.specs.Eights.{passing}
 use Rattle.text_scans.proofs.Passing.{passing-le, passes, reaches}
 use Rattle.line_scans.specs.Words.{byte_at, word_of, hits_of, first_hit, line_at, line_len, line_sixteens}
 use Rattle.line_scans.proofs.Hits.{first-hit, no_hit}
-
--- four bytes by Horner's rule
-pub four : (s : List ℕ) (i : ℕ)
-    → word_of (byte_at s i) 4 ≡ ((get_or s (i + 3) 0 * 256 + get_or s (i + 2) 0) * 256 + get_or s (i + 1) 0) * 256 + get_or s i 0
-unfolding word_of
-four s i = rw (add-zero i) (omega arith)
-
--- eight are four and four
-pub halves : (s : List ℕ) (i : ℕ) → word_of (byte_at s i) 8 ≡ word_of (byte_at s (i + 4)) 4 * 2 ^ 32 + word_of (byte_at s i) 4
-unfolding word_of
-halves s i = rw (add_assoc i 4 0, add_assoc i 4 1, add_assoc i 4 2, add_assoc i 4 3) (omega arith)
 
 -- All before place i passes, and k places follow, of which the first r pass.
 module _ (t : ℕ → Bool) (n i k : ℕ) (h : i ≤ passing t n) (l : i + k ≤ n) (r : ℕ) (e : r ≡ passing (λ j. t (i + j)) k) where
@@ -74,15 +63,6 @@ module _ {s : List ℕ} {i : ℕ} (h : Clean s i) where
   most : line_len s ≤ length s
   most = passing-le (line_at s) (length s)
 
-  pub within : i ≤ length s
-  within = omega (arith, most, h.counted)
-
-  -- fewer than sixteen bytes are left
-  pub ended : i / 16 * 16 ≡ i → length s - i < 16 → i ≡ line_sixteens s
-  ended whole l =
-      let e : i ≡ length s / 16 * 16 = omega (arith, most, h.counted) in
-      e ∙ sym (min-eq_right (omega (arith, h.counted)))
-
   -- the eight bytes from there on, and their hits
   module _ (known : (j : ℕ) → get_or s j 0 < 2 ^ 8) (l : i + 8 ≤ length s) (w : ℕ) (e : w ≡ hits_of 8 (word_of (byte_at s i) 8)) where
     places : count_trailing_zeros 64 w / 8 ≡ passing (λ j. line_at s (i + j)) 8
@@ -100,21 +80,25 @@ module _ {s : List ℕ} {i : ℕ} (h : Clean s i) where
         let f = sym (no_hit (byte_at s i) 8 (λ j. known (i + j))) ∙ ap (λ x. eqb x 0) (sym e) ∙ ne_eqb w 0 (λ q. omega arith) in
         omega (arith, places, passing-le (λ j. line_at s (i + j)) 8, eqb-false (passing (λ j. line_at s (i + j)) 8) 8 f)
 
--- the sixteen bytes from there on, and their hits
-module _ {s : List ℕ} {i : ℕ} (h : Clean s i) (known : (j : ℕ) → get_or s j 0 < 2 ^ 8) (l : 16 ≤ length s - i) where
-  module _ {a b : ℕ} (e : a ≡ hits_of 8 (word_of (byte_at s i) 8)) (f : b ≡ hits_of 8 (word_of (byte_at s (i + 8)) 8)) where
-    upper : a ≡ 0 → Clean s (i + 8)
+-- fewer than sixteen bytes are left
+pub ended : {s : List ℕ} (k : ℕ) → Clean s (16 * k) → length s / 16 ≤ k → length s / 16 * 16 ≡ line_sixteens s
+ended k h l = sym (min-eq_right (omega (arith, h.counted)))
+
+-- the pair of words after k pairs, and their hits
+module _ {s : List ℕ} (k : ℕ) (h : Clean s (16 * k)) (known : (j : ℕ) → get_or s j 0 < 2 ^ 8) (l : 16 * k + 16 ≤ length s) where
+  module _ {a b : ℕ} (e : a ≡ hits_of 8 (word_of (byte_at s (16 * k)) 8)) (f : b ≡ hits_of 8 (word_of (byte_at s (16 * k + 8)) 8)) where
+    upper : a ≡ 0 → Clean s (16 * k + 8)
     upper = past h known (omega arith) a e
 
-    pub passed : bit_or a b ≡ 0 → Clean s (i + 16)
+    pub passed : bit_or a b ≡ 0 → Clean s (16 * (k + 1))
     passed z =
         let c = past (upper (both a b z).0) known (omega arith) b f (both a b z).1 in
         record { counted = omega (arith, c.counted) }
 
-    hit : (bit_or a b ≡ 0 → ⊥) → i + first_hit a b ≡ line_len s
+    hit : (bit_or a b ≡ 0 → ⊥) → 16 * k + first_hit a b ≡ line_len s
     hit z = by (ltb (count_trailing_zeros 64 a / 8) 8) refl
       where
-        by : (t : Bool) → ltb (count_trailing_zeros 64 a / 8) 8 ≡ t → i + cond t (count_trailing_zeros 64 a / 8) (8 + count_trailing_zeros 64 b / 8) ≡ line_len s
+        by : (t : Bool) → ltb (count_trailing_zeros 64 a / 8) 8 ≡ t → 16 * k + cond t (count_trailing_zeros 64 a / 8) (8 + count_trailing_zeros 64 b / 8) ≡ line_len s
         by true m = here h known (omega arith) a e (ltb-true _ 8 m)
         by false m =
             let p : a ≡ 0 = none a (λ q. let g = some h known (omega arith) a e q in omega (arith, ltb-false (count_trailing_zeros 64 a / 8) 8 m)) in
@@ -122,5 +106,5 @@ module _ {s : List ℕ} {i : ℕ} (h : Clean s i) (known : (j : ℕ) → get_or 
             let q = here c known (omega arith) b f (some c known (omega arith) b f (positive b (λ r. z (rw (p, r) (or_zero_l 0))))) in
             omega (arith, q)
 
-    pub found : i / 16 * 16 ≡ i → (bit_or a b ≡ 0 → ⊥) → i + first_hit a b ≡ line_sixteens s
-    found whole z = hit z ∙ sym (min-eq_left (omega (arith, hit z, hit-le a b)))
+    pub found : (bit_or a b ≡ 0 → ⊥) → 16 * k + first_hit a b ≡ line_sixteens s
+    found z = hit z ∙ sym (min-eq_left (omega (arith, hit z, hit-le a b)))

@@ -1,4 +1,8 @@
 -- The listing's loop: the rows written so far, and then the rows of what is left, are the rows of the parser's list.
+use Rattle.std.specs.Prelude.{Some, None, Ok, Err}
+use Rattle.tokenizer.specs.Token.{Answer, values_of, bare, token_values}
+use Rattle.text.specs.Numbers.{error, number_of}
+use Rattle.text.specs.declared.refusals.Refusal.TheVariants.{TooLong}
 use Prim.Native.Nat.{ℕ, ◌+◌, ◌-◌, ◌*◌, ◌^◌, ◌≤◌, ◌<◌}
 use mathlib.Core.Path.{◌≡◌, refl, sym, ap, ◌∙◌}
 use mathlib.Core.List.{List, [], ◌∷◌, ◌++◌, append-nil, append_assoc}
@@ -7,58 +11,61 @@ use native.Mathlib.Omega.{arith}
 use lib.ListN.{length}
 use borrow.Author.Tests.{lt-ltb, le-ltb, le-leb}
 use Rattle.text.proofs.Cases.{clash}
-use Rattle.parser_rules.specs.Ruling.{values_of}
 use Rattle.parser.specs.Step.{step_of, fresh}
-use Rattle.parser.specs.Lists.{is_end, parse}
-use Rattle.parser_rules.specs.declared.ruling.Answer.{Answer}
-use Rattle.parser_rules.specs.declared.ruling.Answer.TheVariants.{End, Token, Refused}
-use Rattle.tokenizer.specs.Token.{token_values}
+use Rattle.parser.specs.Lists.{parse}
+use Rattle.tokenizer.specs.Lists.{is_end}
 use Rattle.tokenizer.specs.declared.token.Token.TheVariants as token
 use Rattle.tokenizer_rows.specs.Rows.{row_of}
 use Rattle.parser.specs.declared.state.State.{State}
 use Rattle.parser_claims.specs.Rests.{rest, Stands}
 use Rattle.parser_claims.proofs.Rests.{fresh-stands, rest_end, rest-step, step-stands}
 use Rattle.listing_text.specs.Text.{placed, filled}
-use Rattle.listing_text.specs.Listing.{header, answer_text, line_text, rows_text, listing_of}
+use Rattle.listing_text.specs.Listing.{header, answer_text, kind_in, line_text, rows_text, listing_of}
 use Rattle.listing_text.proofs.Placing.{Wrote, both, placed-filled}
 
 -- End is the answer whose number is 0
 pub end-zero : (a : Answer) → (values_of a).number ≡ 0 → is_end a ≡ true
 unfolding values_of token_values is_end
-end-zero End e = refl
-end-zero (Token (token.Newline l) o) e = absurd (omega arith)
-end-zero (Token (token.Comment l p) o) e = absurd (omega arith)
-end-zero (Token (token.Indent l) o) e = absurd (omega arith)
-end-zero (Token (token.Outdent l) o) e = absurd (omega arith)
-end-zero (Token (token.ListItem l) o) e = absurd (omega arith)
-end-zero (Token (token.MapKey l p) o) e = absurd (omega arith)
-end-zero (Token (token.Value l p) o) e = absurd (omega arith)
-end-zero (Token (token.MultilineHint l p) o) e = absurd (omega arith)
-end-zero (Token (token.MultilineValue l i p) o) e = absurd (omega arith)
-end-zero (Token (token.NoValue l) o) e = absurd (omega arith)
-end-zero (Refused n l) e = absurd (omega arith)
+end-zero None e = refl
+end-zero (Some (Ok (token.Newline l))) e = absurd (omega arith)
+end-zero (Some (Ok (token.Comment l p))) e = absurd (omega arith)
+end-zero (Some (Ok (token.Indent l))) e = absurd (omega arith)
+end-zero (Some (Ok (token.Outdent l o))) e = absurd (omega arith)
+end-zero (Some (Ok (token.ListItem l))) e = absurd (omega arith)
+end-zero (Some (Ok (token.MapKey l p))) e = absurd (omega arith)
+end-zero (Some (Ok (token.Value l p))) e = absurd (omega arith)
+end-zero (Some (Ok (token.MultilineHint l p))) e = absurd (omega arith)
+end-zero (Some (Ok (token.MultilineValue l i p))) e = absurd (omega arith)
+end-zero (Some (Ok (token.NoValue l))) e = absurd (omega arith)
+end-zero (Some (Err x)) e = absurd (omega arith)
 
 pub not-zero : (a : Answer) → ((values_of a).number ≡ 0 → ⊥) → is_end a ≡ false
 unfolding values_of is_end
-not-zero End z = absurd (z refl)
-not-zero (Token t o) z = refl
-not-zero (Refused n l) z = refl
+not-zero None z = absurd (z refl)
+not-zero (Some (Ok t)) z = refl
+not-zero (Some (Err e)) z = refl
 
 -- the line of a row is that of its answer
 pub line-is : (a : Answer) → is_end a ≡ false → line_text (row_of (values_of a)) ≡ answer_text a
-unfolding line_text answer_text values_of token_values is_end
-line-is End e = absurd (clash e)
-line-is (Token (token.Newline l) o) e = refl
-line-is (Token (token.Comment l p) o) e = refl
-line-is (Token (token.Indent l) o) e = refl
-line-is (Token (token.Outdent l) o) e = refl
-line-is (Token (token.ListItem l) o) e = refl
-line-is (Token (token.MapKey l p) o) e = refl
-line-is (Token (token.Value l p) o) e = refl
-line-is (Token (token.MultilineHint l p) o) e = refl
-line-is (Token (token.MultilineValue l i p) o) e = refl
-line-is (Token (token.NoValue l) o) e = refl
-line-is (Refused n l) e = let k : 256 + n - 256 ≡ n = omega arith in rw (le-leb 256 (256 + n) (omega arith), k)
+unfolding line_text kind_in answer_text values_of token_values is_end
+line-is None e = absurd (clash e)
+line-is (Some (Ok (token.Newline l))) e = refl
+line-is (Some (Ok (token.Comment l p))) e = refl
+line-is (Some (Ok (token.Indent l))) e = refl
+line-is (Some (Ok (token.Outdent l o))) e = refl
+line-is (Some (Ok (token.ListItem l))) e = refl
+line-is (Some (Ok (token.MapKey l p))) e = refl
+line-is (Some (Ok (token.Value l p))) e = refl
+line-is (Some (Ok (token.MultilineHint l p))) e = refl
+line-is (Some (Ok (token.MultilineValue l i p))) e = refl
+line-is (Some (Ok (token.NoValue l))) e = refl
+line-is (Some (Err x)) e =
+    let n = number_of x.refusal in let k : 256 + n - 256 ≡ n = omega arith in rw (le-leb 256 (256 + n) (omega arith), k)
+
+-- as of the refusal of a document that is too long
+pub too-long : line_text (row_of (bare 268 0)) ≡ answer_text (Some (Err (error TooLong 0)))
+unfolding values_of is_end
+too-long = line-is (Some (Err (error TooLong 0))) refl
 
 -- the loop began at the place n of the buffer o, and has come to the place m of the buffer p, and to a state of the parsing; a row
 -- has at most 85 bytes, and there are at most 2 * 65,536
@@ -117,7 +124,7 @@ whole : (s : List ℕ) {m : ℕ} {o p : List ℕ} → Wrote s 0 m o p → (m ≡
 whole s {o = o} w = (omega (arith, w.place), w.buffer ∙ placed-filled s o)
 
 module _ (d : List ℕ) {m : ℕ} {o p : List ℕ} where
-  pub over : 65536 < length d → Wrote (header ++ answer_text (Refused 12 0)) 0 m o p → (m ≡ length (listing_of d)) × (p ≡ filled (listing_of d) o)
+  pub over : 65536 < length d → Wrote (header ++ answer_text (Some (Err (error TooLong 0)))) 0 m o p → (m ≡ length (listing_of d)) × (p ≡ filled (listing_of d) o)
   unfolding listing_of
   over h w = rw (lt-ltb 65536 (length d) h) (whole _ w)
 

@@ -1,76 +1,65 @@
 // The listing's rows, and the listing.
 ghost use Rattle.std.specs.Prelude.{◌≡◌, ◌+◌, ◌≤◌, ◌<◌, ◌^◌, length};
 ghost use Rattle.listing_text.specs.Text.{placed, filled};
-ghost use Rattle.listing_text.specs.Listing.{kind_text, row_text, line_text, listing_of};
+ghost use Rattle.listing_text.specs.Listing.{kind_in, line_text, listing_of};
 
-use crate::writing::{put_number, put_text};
+use crate::writing::Text;
 use batches::next;
 use parser_words::fresh_parser;
+use text::Refusal;
+use tokenizer_rows::bare_row;
 
 // How many bytes a document may have.
 const MAX_LISTED: usize = 65536;
 
-// A kind is a number; a refusal's has an R before it.
-fn put_kind(refused: bool, n: usize, at: usize, out: &mut [u8]) -> usize
-    requires { at + 21 < 2 ^ 64 }
-    ensures value { result ≡ at + length (kind_text refused n) }
-    ensures upper_bound { result ≤ at + 21 }
-    ensures out_after { out.new ≡ placed (kind_text refused n) at out.old }
-{
-    if refused {
-        let a = put_text(b"R", at, out);
-        return put_number(n, a, out);
+impl Text<'_> {
+    // A kind is a number; a refusal's, which is 256 more in a row, has an R before it.
+    fn put_kind(&mut self, number: usize)
+        requires { self.old.len + 21 < 2 ^ 64 }
+        ensures same_reference { self.new.out.ghost_name ≡ self.old.out.ghost_name }
+        ensures len { self.new.len ≡ self.old.len + length (kind_in number) }
+        ensures upper_bound { self.new.len ≤ self.old.len + 21 }
+        ensures out { self.new.out.now ≡ placed (kind_in number) self.old.len self.old.out.now }
+    {
+        if 256 <= number {
+            self.put(b"R");
+            self.put_number(number - 256);
+            return;
+        }
+        self.put_number(number);
     }
-    put_number(n, at, out)
-}
 
-// A row: line, kind, start and end.
-fn put_row(
-    line: usize,
-    refused: bool,
-    kind: usize,
-    start: usize,
-    end: usize,
-    at: usize,
-    out: &mut [u8],
-) -> usize
-    requires { at + 85 < 2 ^ 64 }
-    ensures value { result ≡ at + length (row_text line (kind_text refused kind) start end) }
-    ensures upper_bound { result ≤ at + 85 }
-    ensures out_after { out.new ≡ placed (row_text line (kind_text refused kind) start end) at out.old }
-{
-    let a = put_number(line, at, out);
-    let b = put_text(b" ", a, out);
-    let c = put_kind(refused, kind, b, out);
-    let d = put_text(b" ", c, out);
-    let e = put_number(start, d, out);
-    let f = put_text(b" ", e, out);
-    let g = put_number(end, f, out);
-    put_text(b"\n", g, out)
-}
-
-// The line of an answer's row: a refusal's number is 256 more.
-fn put_answer(row: &[usize; 7], at: usize, out: &mut [u8]) -> usize
-    requires { at + 85 < 2 ^ 64 }
-    ensures value { result ≡ at + length (line_text row.now) }
-    ensures upper_bound { result ≤ at + 85 }
-    ensures out_after { out.new ≡ placed (line_text row.now) at out.old }
-{
-    let number = row[0];
-    if 256 <= number {
-        return put_row(row[1], true, number - 256, row[2], row[3], at, out);
+    // The line of an answer's row: line, kind, start and end.
+    fn put_row(&mut self, row: &[usize; 7])
+        requires { self.old.len + 85 < 2 ^ 64 }
+        ensures same_reference { self.new.out.ghost_name ≡ self.old.out.ghost_name }
+        ensures len { self.new.len ≡ self.old.len + length (line_text row.now) }
+        ensures upper_bound { self.new.len ≤ self.old.len + 85 }
+        ensures out { self.new.out.now ≡ placed (line_text row.now) self.old.len self.old.out.now }
+    {
+        let [number, line, start, end, ..] = *row;
+        self.put_number(line);
+        self.put(b" ");
+        self.put_kind(number);
+        self.put(b" ");
+        self.put_number(start);
+        self.put(b" ");
+        self.put_number(end);
+        self.put(b"\n");
     }
-    put_row(row[1], false, number, row[2], row[3], at, out)
 }
 
-// Writes the listing into out, as far as it goes, and answers how many bytes the listing has.
+// Writes the listing into out, as far as it goes, and answers how many bytes the listing has. A loop, since each step
+// writes its row and the state into lent words: an iterator would have to hold both.
 pub fn listing(doc: &[u8], out: &mut [u8]) -> usize
     ensures value { result ≡ length (listing_of doc.now) }
     ensures out_after { out.new ≡ filled (listing_of doc.now) out.old }
 {
-    let mut at = put_text(b"line kind start end\n", 0, out);
+    let mut text = Text { out, len: 0 };
+    text.put(b"line kind start end\n");
     if MAX_LISTED < doc.len() {
-        return put_row(0, true, 12, 0, 0, at, out);
+        text.put_row(&bare_row(256 + usize::from(Refusal::TooLong), 0));
+        return text.len;
     }
     let mut words = [0usize; 278];
     fresh_parser(&mut words);
@@ -78,8 +67,8 @@ pub fn listing(doc: &[u8], out: &mut [u8]) -> usize
     loop {
         next(doc, &mut words, &mut row);
         if row[0] == 0 {
-            return at;
+            return text.len;
         }
-        at = put_answer(&row, at, out);
+        text.put_row(&row);
     }
 }

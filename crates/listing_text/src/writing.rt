@@ -1,39 +1,38 @@
-// Text written into a lent buffer as far as it goes: each function answers the place after what it writes.
-ghost use Rattle.std.specs.Prelude.{◌≡◌, ◌+◌, ◌≤◌, ◌<◌, ◌^◌, length, set};
+// Text written into a lent buffer as far as it goes.
+ghost use Rattle.std.specs.Prelude.{◌≡◌, ◌+◌, ◌≤◌, ◌<◌, ◌^◌, length};
 ghost use Rattle.listing_text.specs.Text.{placed, decimal};
 
-fn put(b: u8, at: usize, out: &mut [u8]) -> usize
-    requires { at + 1 < 2 ^ 64 }
-    ensures value { result ≡ at + 1 }
-    ensures out_after { out.new ≡ set out.old at b }
-{
-    if at < out.len() {
-        out[at] = b;
-    }
-    at + 1
+// What is written, and how much: what goes past the end of out is counted only.
+#[derive(Drop)]
+pub(crate) struct Text<'a> {
+    pub(crate) out: &'a mut [u8],
+    pub(crate) len: usize,
 }
 
-pub(crate) fn put_text(s: &[u8], at: usize, out: &mut [u8]) -> usize
-    requires { at + length s.now < 2 ^ 64 }
-    ensures value { result ≡ at + length s.now }
-    ensures out_after { out.new ≡ placed s.now at out.old }
-{
-    let mut i = 0;
-    let mut end = at;
-    while i < s.len() {
-        end = put(s[i], end, out);
-        i += 1;
+impl Text<'_> {
+    pub(crate) fn put(&mut self, s: &[u8])
+        requires { self.old.len + length s.now < 2 ^ 64 }
+        ensures same_reference { self.new.out.ghost_name ≡ self.old.out.ghost_name }
+        ensures len { self.new.len ≡ self.old.len + length s.now }
+        ensures out { self.new.out.now ≡ placed s.now self.old.len self.old.out.now }
+    {
+        for b in s {
+            if self.len < self.out.len() {
+                self.out[self.len] = *b;
+            }
+            self.len += 1;
+        }
     }
-    end
-}
 
-pub(crate) fn put_number(n: usize, at: usize, out: &mut [u8]) -> usize
-    requires { at + 20 < 2 ^ 64 }
-    ensures value { result ≡ at + length (decimal n) }
-    ensures upper_bound { result ≤ at + 20 }
-    ensures out_after { out.new ≡ placed (decimal n) at out.old }
-{
-    let mut digits = [0u8; 20];
-    let k = io::decimal(n as u64, &mut digits);
-    put_text(&digits[..k], at, out)
+    pub(crate) fn put_number(&mut self, n: usize)
+        requires { self.old.len + 20 < 2 ^ 64 }
+        ensures same_reference { self.new.out.ghost_name ≡ self.old.out.ghost_name }
+        ensures len { self.new.len ≡ self.old.len + length (decimal n) }
+        ensures upper_bound { self.new.len ≤ self.old.len + 20 }
+        ensures out { self.new.out.now ≡ placed (decimal n) self.old.len self.old.out.now }
+    {
+        let mut digits = [0u8; 20];
+        let k = io::decimal(n as u64, &mut digits);
+        self.put(&digits[..k]);
+    }
 }

@@ -1,28 +1,24 @@
 -- The look-up's loop: what holds of a search at a state of the parsing, and that a step keeps it or gives what the rule asks.
+use Rattle.std.specs.Prelude.{Some, None, Ok, Err}
+use Rattle.tokenizer.specs.Token.{Answer, values_of}
 use Prim.Native.Nat.{ℕ, ◌+◌, ◌*◌, ◌≤◌, ◌<◌}
 use mathlib.Core.Path.{◌≡◌, refl, sym, ap, ◌∙◌}
 use mathlib.Core.List.{List, ◌∷◌}
 use mathlib.Core.Bool.{true, false, false≢true}
 use native.Mathlib.Omega.{arith}
 use lib.ListN.{length}
+use Rattle.std.proofs.Common.{None, Continue, Break}
 use Rattle.text.proofs.Cases.{by_bool}
-use Rattle.parser_rules.specs.Ruling.{values_of}
 use Rattle.parser.specs.Step.{step_of, fresh}
-use Rattle.parser.specs.Lists.{is_end}
-use Rattle.parser_rules.specs.declared.ruling.Answer.{Answer}
-use Rattle.parser_rules.specs.declared.ruling.Answer.TheVariants as answer
+use Rattle.tokenizer.specs.Lists.{is_end}
 use Rattle.parser.specs.declared.state.State.{State}
 use Rattle.tokenizer_rows.specs.Rows.{row_of}
 use Rattle.parser_claims.specs.Rests.{rest, Stands}
 use Rattle.parser_claims.proofs.Rests.{fresh-stands, rest_end, rest-step, step-stands}
 use Rattle.parser_claims.proofs.Ordered.{Ordered, tail, parse-ordered}
-use Rattle.look_up.specs.Entries.{look_up}
-use Rattle.look_up.specs.Search.{on_answer, on_row}
-use Rattle.look_up.specs.declared.search.Found.{Found}
-use Rattle.look_up.specs.declared.search.Hit.TheVariants.{Nothing}
+use Rattle.look_up.specs.Entries.{Outcome, look_up}
+use Rattle.look_up.specs.Search.{Turn, on_answer, on_row}
 use Rattle.look_up.specs.declared.search.Search.{Search}
-use Rattle.look_up.specs.declared.search.Turn.{Turn}
-use Rattle.look_up.specs.declared.search.Turn.TheVariants.{Goes, Ends}
 use Rattle.look_up.proofs.Rows.{row_is}
 use Rattle.look_up.proofs.Counts.{counted, answer-counts}
 use Rattle.look_up.proofs.Searched.{searched, turned, searched-end, searched-step}
@@ -35,20 +31,20 @@ pub record Searching (d w : List ℕ) (t : State) (s : Search) : Type 0 where
   pub counts : counted s + length (rest d t) ≤ 2 * length d
   pub finds : look_up d w ≡ searched d w s (rest d t)
 
-pub begins : (d w : List ℕ) → length d ≤ 16777216 → Searching d w fresh (record { indents = 0; outdents = 0; hit = Nothing })
+pub begins : (d w : List ℕ) → length d ≤ 16777216 → Searching d w fresh (record { indents = 0; outdents = 0; hit = None })
 unfolding look_up searched
 begins d w h =
     let r = fresh-stands d h in
     record { stands = r.1; from = 0; ordered = rw r.0 (parse-ordered d h); counts = omega (arith, r.1.bound); finds = rw r.0 }
 
-is-end : (a : Answer) → is_end a ≡ true → a ≡ answer.End
+is-end : (a : Answer) → is_end a ≡ true → a ≡ None
 unfolding is_end
-is-end answer.End e = refl
-is-end (answer.Token t o) e = absurd (false≢true e)
-is-end (answer.Refused n l) e = absurd (false≢true e)
+is-end None e = refl
+is-end (Some (Ok t)) e = absurd (false≢true e)
+is-end (Some (Err x)) e = absurd (false≢true e)
 
 module _ (d w : List ℕ) (t : State) (s : Search) (c : Searching d w t s) where
-  abbrev afterwards : Turn → Found
+  abbrev afterwards : Turn → Outcome
   afterwards y = turned d w y (rest d (step_of d t).state)
 
   at-end : is_end (step_of d t).answer ≡ true → searched d w s (rest d t) ≡ afterwards (on_answer d w s (step_of d t).answer)
@@ -64,7 +60,7 @@ module _ (d w : List ℕ) (t : State) (s : Search) (c : Searching d w t s) where
   turns : look_up d w ≡ afterwards (on_answer d w s (step_of d t).answer)
   turns = c.finds ∙ by_bool (is_end (step_of d t).answer) at-end at-answer
 
-  module _ {u : Search} (g : on_answer d w s (step_of d t).answer ≡ Goes u) where
+  module _ {u : Search} (g : on_answer d w s (step_of d t).answer ≡ Continue u) where
     not_end : is_end (step_of d t).answer ≡ false
     unfolding on_answer
     not_end =
@@ -95,12 +91,12 @@ module _ (d w : List ℕ) (t : State) (s : Search) (c : Searching d w t s) where
       the-turn : y ≡ on_answer d w s (step_of d t).answer
       the-turn = q ∙ ap (on_row d w s) v ∙ row_is d w s (step_of d t).answer
 
-      pub finds : {f : Found} → y ≡ Ends f → f ≡ look_up d w
+      pub finds : {a : Outcome} → y ≡ Break a → a ≡ look_up d w
       finds e = sym (turns ∙ ap afterwards (sym the-turn ∙ e))
 
       module _ {x : State} (i : x ≡ (step_of d t).state) where
-        pub falls : {u : Search} → y ≡ Goes u → length (rest d x) < length (rest d t)
+        pub falls : {u : Search} → y ≡ Continue u → length (rest d x) < length (rest d t)
         falls e = rw i (less (sym the-turn ∙ e))
 
-        pub goes_on : {u : Search} → y ≡ Goes u → Searching d w x u
+        pub goes_on : {u : Search} → y ≡ Continue u → Searching d w x u
         goes_on e = rw i (again (sym the-turn ∙ e))

@@ -3,4 +3,4 @@
 
 mod search;
 
-pub use search::{Found, Hit, Search, Turn, entry, look_up};
+pub use search::{Found, Outcome, entry, look_up};

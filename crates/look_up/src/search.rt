@@ -1,121 +1,122 @@
 // The look-up: one pass over the parser's answers, a row each, its state in words of its own.
-ghost use Rattle.std.specs.Prelude.{◌≡◌};
+ghost use Rattle.std.specs.Prelude.{◌≡◌, Ok};
 ghost use Rattle.look_up.specs.Entries.{look_up, entry_of};
-ghost use Rattle.look_up.specs.Search.{HasRoom, closed_at, on_key, on_row};
+ghost use Rattle.look_up.specs.Search.{HasRoom, found_at, on_key, on_row};
 
 use batches::next;
 use parser_words::fresh_parser;
-use text::Part;
+use std::ops::ControlFlow;
+use text::{Part, Refusal, SyntaxError};
 use token_text::is_text;
 use tokenizer::{State, Token};
+use tokenizer_rows::token_in;
 
-// What the look-up answers: nothing, or the line of the key with the entry's part of the document, or the parser's refusal
-// with its number and line.
+// What the look-up finds: the key's line, and the entry's part of the document.
 #[derive(Clone, Copy)]
-pub enum Found {
-    Nothing,
-    At(usize, Part),
-    Refused(usize, usize),
+pub struct Found {
+    pub line: usize,
+    pub part: Part,
 }
 
-// The key that was wanted, once it is found: its line and its first byte's place.
+// What is found, if anything, or why the document is refused.
+pub type Outcome = Result<Option<Found>, SyntaxError>;
+
+// The key that was wanted, once it is met: its line and its first byte's place.
 #[derive(Clone, Copy)]
-pub enum Hit {
-    Nothing,
-    At(usize, usize),
+pub(crate) struct Hit {
+    pub(crate) line: usize,
+    pub(crate) start: usize,
+}
+
+impl Hit {
+    // Its entry, where that ends at `end`.
+    fn up_to(self, end: usize) -> Found
+        ensures { result ≡ found_at self end }
+    {
+        Found {
+            line: self.line,
+            part: Part {
+                start: self.start,
+                end,
+            },
+        }
+    }
 }
 
 // Where the look-up stands: how many Indents and Outdents came, and the hit.
 #[derive(Clone, Copy)]
-pub struct Search {
-    pub indents: usize,
-    pub outdents: usize,
-    pub hit: Hit,
+pub(crate) struct Search {
+    pub(crate) indents: usize,
+    pub(crate) outdents: usize,
+    pub(crate) hit: Option<Hit>,
 }
 
-#[derive(Clone, Copy)]
-pub enum Turn {
-    Goes(Search),
-    Ends(Found),
-}
+// An answer ends the look-up, or it goes on.
+type Turn = ControlFlow<Outcome, Search>;
 
-// An entry that was hit ends at `end`.
-fn closed(hit: Hit, end: usize) -> Found
-    ensures { result ≡ closed_at hit end }
-{
-    match hit {
-        Hit::Nothing => Found::Nothing,
-        Hit::At(line, start) => Found::At(line, Part { start, end }),
+impl Search {
+    // A top-level key ends the entry that was hit, else it may be the one that is wanted.
+    #[tactic(auto, unfolding(crate::specs::Search::on_key, crate::specs::Search::on_top_key))]
+    fn on_key(self, line: usize, text: Part, doc: &[u8], wanted: &[u8]) -> Turn
+        ensures { result ≡ on_key doc.now wanted.now self line text }
+    {
+        if self.indents != self.outdents {
+            return ControlFlow::Continue(self);
+        }
+        let start = text.start;
+        if let Some(hit) = self.hit {
+            return ControlFlow::Break(Ok(Some(hit.up_to(start))));
+        }
+        if is_text(Token::MapKey(line, text), doc, wanted) {
+            return ControlFlow::Continue(Search {
+                hit: Some(Hit { line, start }),
+                ..self
+            });
+        }
+        ControlFlow::Continue(self)
     }
-}
 
-// A top-level key ends the entry that was hit, else it may be the one that is wanted.
-fn on_key(s: Search, line: usize, p: Part, doc: &[u8], wanted: &[u8]) -> Turn
-    ensures { result ≡ on_key doc.now wanted.now s line p }
-{
-    if s.indents != s.outdents {
-        return Turn::Goes(s);
-    }
-    let hit = s.hit;
-    let start = p.start;
-    if let Hit::At(_, _) = hit {
-        return Turn::Ends(closed(hit, start));
-    }
-    if is_text(Token::MapKey(line, p), doc, wanted) {
-        return Turn::Goes(Search {
-            indents: s.indents,
-            outdents: s.outdents,
-            hit: Hit::At(line, start),
-        });
-    }
-    Turn::Goes(s)
-}
-
-// What the row of an answer does to a search: End and a refusal end it, Indents and Outdents are counted, keys are compared.
-fn on_row(s: Search, row: &[usize; 7], doc: &[u8], wanted: &[u8]) -> Turn
-    requires { HasRoom s }
-    ensures { result ≡ on_row doc.now wanted.now s row.now }
-{
-    let hit = s.hit;
-    let number = row[0];
-    let line = row[1];
-    if 256 <= number {
-        return Turn::Ends(Found::Refused(number - 256, line));
-    }
-    match number {
-        0 => Turn::Ends(closed(hit, doc.len())),
-        3 => Turn::Goes(Search {
-            indents: s.indents + 1,
-            outdents: s.outdents,
-            hit,
-        }),
-        4 => Turn::Goes(Search {
-            indents: s.indents,
-            outdents: s.outdents + 1,
-            hit,
-        }),
-        6 => on_key(
-            s,
-            line,
-            Part {
-                start: row[2],
-                end: row[3],
-            },
-            doc,
-            wanted,
-        ),
-        _ => Turn::Goes(s),
+    // End and a refusal end the search, Indents and Outdents are counted, keys are compared. A number that is no
+    // refusal's would be of words that no step left: 15.
+    #[tactic(auto, unfolding(crate::specs::Search::on_row, crate::specs::Search::on_token))]
+    fn on_row(self, row: &[usize; 7], doc: &[u8], wanted: &[u8]) -> Turn
+        requires { HasRoom self }
+        ensures { result ≡ on_row doc.now wanted.now self row.now }
+    {
+        let [number, line, ..] = *row;
+        if number == 0 {
+            let end = doc.len();
+            return ControlFlow::Break(Ok(self.hit.map(|hit| hit.up_to(end))));
+        }
+        if 256 <= number {
+            let refusal = Refusal::try_from(number - 256).unwrap_or(Refusal::UnfitState);
+            return ControlFlow::Break(Err(SyntaxError { refusal, line }));
+        }
+        match token_in(row) {
+            Token::Indent(_) => ControlFlow::Continue(Search {
+                indents: self.indents + 1,
+                ..self
+            }),
+            Token::Outdent(_, _) => ControlFlow::Continue(Search {
+                outdents: self.outdents + 1,
+                ..self
+            }),
+            Token::MapKey(line, text) => self.on_key(line, text, doc, wanted),
+            _ => ControlFlow::Continue(self),
+        }
     }
 }
 
 // The first top-level key whose text, unescaped, is `wanted`: its line, and the part from its first byte, which may be a
 // quote, to the next top-level key's, or to the document's end. A key that unescaping refuses has no name, and is passed
-// over. The parser's refusal, met before the entry's end, is the answer; 12 over the limit.
-pub fn look_up(doc: &[u8], wanted: &[u8]) -> Found
+// over. The parser's refusal, met before the entry's end, is the answer; 12 over the limit. A loop, since each step
+// writes its row and the state into lent words: an iterator would have to hold both.
+pub fn look_up(doc: &[u8], wanted: &[u8]) -> Outcome
     ensures { result ≡ look_up doc.now wanted.now }
 {
     if State::MAX_DOCUMENT < doc.len() {
-        return Found::Refused(12, 0);
+        let refusal = Refusal::TooLong;
+        return Err(SyntaxError { refusal, line: 0 });
     }
     let mut words = [0usize; 278];
     fresh_parser(&mut words);
@@ -123,15 +124,13 @@ pub fn look_up(doc: &[u8], wanted: &[u8]) -> Found
     let mut search = Search {
         indents: 0,
         outdents: 0,
-        hit: Hit::Nothing,
+        hit: None,
     };
     loop {
         next(doc, &mut words, &mut row);
-        match on_row(search, &row, doc, wanted) {
-            Turn::Ends(found) => return found,
-            Turn::Goes(s) => {
-                search = s;
-            }
+        match search.on_row(&row, doc, wanted) {
+            ControlFlow::Break(found) => return found,
+            ControlFlow::Continue(s) => search = s,
         }
     }
 }
@@ -140,10 +139,10 @@ pub fn look_up(doc: &[u8], wanted: &[u8]) -> Found
 pub fn entry<'a>(doc: &'a [u8], wanted: &[u8]) -> &'a [u8]
     ensures { result.now ≡ entry_of doc.now wanted.now }
 {
-    let Found::At(_, p) = look_up(doc, wanted) else {
+    let Ok(Some(found)) = look_up(doc, wanted) else {
         return &doc[..0];
     };
-    let start = p.start;
-    let end = p.end;
+    let start = found.part.start;
+    let end = found.part.end;
     &doc[start..end]
 }

@@ -1,4 +1,3 @@
 pub mod Sections
 pub mod Steps
 pub mod Examples
-pub mod Valued

@@ -1,31 +1,29 @@
 -- The step by the code's own branches: over the limit, unfit, refused before, and else by what was kept.
+use Rattle.std.specs.Prelude.{None}
 use Prim.Native.Nat.{ℕ, ◌≤◌, ◌<◌}
 use mathlib.Core.Path.{◌≡◌, ap}
 use mathlib.Core.List.{List}
 use mathlib.Core.Bool.{true, false}
 use lib.ListN.{length}
 use borrow.Author.Tests.{lt-ltb, le-ltb}
-use Rattle.tokenizer.specs.Token.{values_of as tokenizer_values}
+use Rattle.tokenizer.specs.Token.{values_of}
 use Rattle.tokenizer.specs.Step.{fit}
-use Rattle.tokenizer.specs.declared.state.Step.{Step as TokenStep}
-use Rattle.tokenizer.proofs.Valued.{values-injective}
-use Rattle.parser_rules.specs.Ruling.{values_of}
 use Rattle.parser.specs.Step.{refusal, step_kept, step_of}
-use Rattle.parser_rules.specs.declared.ruling.Answer.TheVariants as answer
 use Rattle.parser.specs.declared.state.State.{State}
-use Rattle.parser.specs.declared.state.Step.{Step}
+use Rattle.text.specs.declared.refusals.Refusal.TheVariants.{TooLong, UnfitState}
+use Rattle.tokenizer.specs.declared.state.Step.{Step}
 
 module _ (d : List ℕ) (s : State) where
-  pub over : 16777216 < length d → step_of d s ≡ refusal 12 s
+  pub over : 16777216 < length d → step_of d s ≡ refusal TooLong s
   unfolding step_of
   over h = rw (lt-ltb 16777216 (length d) h)
 
-  pub unfit : length d ≤ 16777216 → fit (length d) s.tokenizer ≡ false → step_of d s ≡ refusal 15 s
+  pub unfit : length d ≤ 16777216 → fit (length d) s.tokenizer ≡ false → step_of d s ≡ refusal UnfitState s
   unfolding step_of
   unfit h e = rw (le-ltb 16777216 (length d) h, e)
 
   pub ended : length d ≤ 16777216 → fit (length d) s.tokenizer ≡ true → s.refused ≡ true
-      → step_of d s ≡ record { answer = answer.End; state = s }
+      → step_of d s ≡ record { answer = None; state = s }
   unfolding step_of
   ended h e r = simp (le-ltb 16777216 (length d) h, e, r)
 
@@ -34,9 +32,5 @@ module _ (d : List ℕ) (s : State) where
   goes_on h e r = simp (le-ltb 16777216 (length d) h, e, r)
 
 -- what the step promises of an equal step
-pub promised : {x y : Step} → x ≡ y → (values_of x.answer ≡ values_of y.answer) × (x.state ≡ y.state)
-promised e = (ap (λ (z : Step). values_of z.answer) e, ap (λ (z : Step). z.state) e)
-
--- the tokenizer's promise is of the very step
-pub equal-steps : (x y : TokenStep) → tokenizer_values x.answer ≡ tokenizer_values y.answer → x.state ≡ y.state → x ≡ y
-equal-steps x y p q = let e = values-injective x.answer y.answer p in λ i. record { answer = e i; state = q i }
+pub promised : {x y : Step State} → x ≡ y → (values_of x.answer ≡ values_of y.answer) × (x.state ≡ y.state)
+promised e = (ap (λ (z : Step State). values_of z.answer) e, ap (λ (z : Step State). z.state) e)

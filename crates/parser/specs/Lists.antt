@@ -1,47 +1,38 @@
 -- Law: document 01, 'Parser': the parser's list for a document holds every answer of its step before the first End;
 -- over the size limit it is the one refusal 12. Beside it, the same as a function over the tokenizer's list, which is
 -- intermediate: parser_claims, proofs/Claimed, shows that it is this list.
-use Rattle.std.specs.Prelude.{ℕ, suc, ◌≤◌, ◌<◌, ◌≡◌, List, [], ◌∷◌, ◌++◌, Bool, true, false, cond, eqb, ltb, length}
-use Rattle.text.specs.Numbers.{max_document, too_long, unfit_state}
-use Rattle.tokenizer.specs.Lists.{tokens}
+use Rattle.std.specs.Prelude.{Option, Some, None, Ok, Err, ℕ, suc, ◌≤◌, ◌<◌, ◌≡◌, List, [], ◌∷◌, ◌++◌, Bool, true, false, cond, eqb, ltb, length}
+use Rattle.tokenizer.specs.Token.{Answer}
+use Rattle.text.specs.Numbers.{error, max_document}
+use Rattle.text.specs.declared.refusals.Refusal.TheVariants.{TooLong, UnfitState}
+use Rattle.tokenizer.specs.Lists.{is_end, tokens}
 use Rattle.tokenizer.specs.declared.token.Token.{Token}
 use Rattle.tokenizer.specs.declared.token.Token.TheVariants as token
-use Rattle.tokenizer.specs.declared.state.Answer.{Answer as Came}
-use Rattle.tokenizer.specs.declared.state.Answer.TheVariants as came
 use Rattle.parser_rules.specs.Ruling.{ruling_of}
 use Rattle.parser.specs.Step.{unsorted, no_sort, step_of, fresh}
-use Rattle.parser_rules.specs.declared.ruling.Answer.{Answer}
-use Rattle.parser_rules.specs.declared.ruling.Answer.TheVariants as answer
 use Rattle.parser_rules.specs.declared.ruling.Sort.{Sort}
 use Rattle.parser_rules.specs.declared.ruling.Sort.TheVariants.{Unset, Map, List as Listed}
 use Rattle.parser_rules.specs.declared.ruling.Awaited.{Awaited}
 use Rattle.parser_rules.specs.declared.ruling.Awaited.TheVariants as awaited
 use Rattle.parser_rules.specs.declared.ruling.Kept.{Kept}
 use Rattle.parser_rules.specs.declared.ruling.Kept.TheVariants as kept
-use Rattle.parser_rules.specs.declared.ruling.Innermost.{Innermost}
-use Rattle.parser_rules.specs.declared.ruling.Innermost.TheVariants.{Missing, Of}
 use Rattle.parser_rules.specs.declared.ruling.Change.{Change}
 use Rattle.parser_rules.specs.declared.ruling.Change.TheVariants.{Keep, Fix, Open, Close}
 use Rattle.parser_rules.specs.declared.ruling.Verdict.{Verdict}
 use Rattle.parser_rules.specs.declared.ruling.Ruling.{Ruling}
 use Rattle.parser_rules.specs.declared.ruling.Ruling.TheVariants.{Says, End, Unfit}
-use Rattle.parser.specs.declared.state.Section.{Section}
+use Rattle.parser_rules.specs.declared.ruling.Section.{Section}
 use Rattle.parser.specs.declared.state.State.{State}
-
-unfoldable pub is_end : Answer → Bool
-is_end answer.End = true
-is_end (answer.Token t o) = false
-is_end (answer.Refused n l) = false
 
 -- from the first state on, the list's answers come one by one, and at the last state End comes next
 pub data Parses (d : List ℕ) : State → List Answer → State → Type 0 where
-  ends : {s : State} → (step_of d s).answer ≡ answer.End → Parses d s [] s
+  ends : {s : State} → (step_of d s).answer ≡ None → Parses d s [] s
   says : {s t u : State} {a : Answer} {l : List Answer} → step_of d s ≡ record { answer = a; state = t } → is_end a ≡ false
       → Parses d t l u → Parses d s (a ∷ l) u
 
 -- the parser's list for a document
 pub data ParseList (d : List ℕ) : List Answer → Type 0 where
-  over : max_document < length d → ParseList d (answer.Refused too_long 0 ∷ [])
+  over : max_document < length d → ParseList d (Some (Err (error TooLong 0)) ∷ [])
   read : {l : List Answer} {u : State} → length d ≤ max_document → Parses d fresh l u → ParseList d l
 
 -- Intermediate, the parser over the tokenizer's list: what is awaited, and the open sections, the innermost first.
@@ -49,9 +40,9 @@ pub record Stand : Type 0 where
   pub awaited : Awaited
   pub sections : List Section
 
-abbrev pub innermost : List Section → Innermost
-innermost [] = Missing
-innermost (s ∷ l) = Of s.sort s.line
+abbrev pub innermost : List Section → Option Section
+innermost [] = None
+innermost (s ∷ l) = Some s
 
 abbrev pub stack_after : Change → List Section → List Section
 stack_after Keep l = l
@@ -68,7 +59,7 @@ pub record Fed : Type 0 where
   pub goes_on : Bool
 
 abbrev pub unfit_fed : Stand → Fed
-unfit_fed s = record { says = answer.Refused unfit_state 0 ∷ []; next = s; goes_on = false }
+unfit_fed s = record { says = Some (Err (error UnfitState 0)) ∷ []; next = s; goes_on = false }
 
 abbrev pub stand_after : Stand → Verdict → Stand
 stand_after s v = record { awaited = v.awaited; sections = stack_after v.change s.sections }
@@ -82,26 +73,26 @@ fed_once s Unfit = unfit_fed s
 abbrev pub before : Answer → Fed → Fed
 before a f = record { says = a ∷ f.says; next = f.next; goes_on = f.goes_on }
 
-abbrev pub ruled : Stand → Came → Ruling
+abbrev pub ruled : Stand → Answer → Ruling
 ruled s c = ruling_of s.awaited (innermost s.sections) false c
 
 -- what was kept comes again
 abbrev pub fed_twice : Stand → Kept → Verdict → Fed
 fed_twice s kept.Nothing v = fed_once s (Says v)
-fed_twice s kept.End v = before v.answer (fed_once (stand_after s v) (ruled (stand_after s v) came.End))
-fed_twice s (kept.Token t) v = before v.answer (fed_once (stand_after s v) (ruled (stand_after s v) (came.Token t)))
+fed_twice s kept.End v = before v.answer (fed_once (stand_after s v) (ruled (stand_after s v) None))
+fed_twice s (kept.Token t) v = before v.answer (fed_once (stand_after s v) (ruled (stand_after s v) (Some (Ok t))))
 
 abbrev pub fed_by : Stand → Ruling → Fed
 fed_by s (Says v) = fed_twice s v.kept v
 fed_by s End = fed_once s End
 fed_by s Unfit = fed_once s Unfit
 
-unfoldable pub feed : Stand → Came → Fed
+unfoldable pub feed : Stand → Answer → Fed
 feed s c = fed_by s (ruled s c)
 
 -- the parser's list from the tokenizer's, whose end comes last
-unfoldable pub parsed : Stand → List Came → List Answer
-parsed s [] = (feed s came.End).says
+unfoldable pub parsed : Stand → List Answer → List Answer
+parsed s [] = (feed s None).says
 parsed s (c ∷ l) = let r = parsed (feed s c).next l in (feed s c).says ++ cond (feed s c).goes_on r []
 
 abbrev pub fresh_stand : Stand
@@ -109,14 +100,14 @@ fresh_stand = record { awaited = awaited.Nothing; sections = no_sort ∷ [] }
 
 -- The list of a document.
 unfoldable pub parse : List ℕ → List Answer
-parse d = let r = parsed fresh_stand (tokens d) in cond (ltb max_document (length d)) (answer.Refused too_long 0 ∷ []) r
+parse d = let r = parsed fresh_stand (tokens d) in cond (ltb max_document (length d)) (Some (Err (error TooLong 0)) ∷ []) r
 
 -- A document is refused where its parser's list has a refusal, else accepted.
 unfoldable pub refused_in : List Answer → Bool
 refused_in [] = false
-refused_in (answer.End ∷ l) = refused_in l
-refused_in (answer.Token t o ∷ l) = refused_in l
-refused_in (answer.Refused n m ∷ l) = true
+refused_in (None ∷ l) = refused_in l
+refused_in (Some (Ok t) ∷ l) = refused_in l
+refused_in (Some (Err e) ∷ l) = true
 
 abbrev pub Accepted : List ℕ → Type 0
 Accepted d = refused_in (parse d) ≡ false
@@ -124,18 +115,18 @@ Accepted d = refused_in (parse d) ≡ false
 -- A top-level entry is a key or item with as many Outdents as Indents before it in the list; i and o count them.
 unfoldable pub top_entries : ℕ → ℕ → List Answer → List Token
 top_entries i o [] = []
-top_entries i o (answer.End ∷ l) = top_entries i o l
-top_entries i o (answer.Refused n m ∷ l) = top_entries i o l
-top_entries i o (answer.Token (token.Indent m) k ∷ l) = top_entries (suc i) o l
-top_entries i o (answer.Token (token.Outdent m) k ∷ l) = top_entries i (suc o) l
-top_entries i o (answer.Token (token.ListItem m) k ∷ l) = let r = top_entries i o l in cond (eqb i o) (token.ListItem m ∷ r) r
-top_entries i o (answer.Token (token.MapKey m p) k ∷ l) = let r = top_entries i o l in cond (eqb i o) (token.MapKey m p ∷ r) r
-top_entries i o (answer.Token (token.Newline m) k ∷ l) = top_entries i o l
-top_entries i o (answer.Token (token.Comment m p) k ∷ l) = top_entries i o l
-top_entries i o (answer.Token (token.Value m p) k ∷ l) = top_entries i o l
-top_entries i o (answer.Token (token.MultilineHint m p) k ∷ l) = top_entries i o l
-top_entries i o (answer.Token (token.MultilineValue m q p) k ∷ l) = top_entries i o l
-top_entries i o (answer.Token (token.NoValue m) k ∷ l) = top_entries i o l
+top_entries i o (None ∷ l) = top_entries i o l
+top_entries i o (Some (Err e) ∷ l) = top_entries i o l
+top_entries i o (Some (Ok (token.Indent m)) ∷ l) = top_entries (suc i) o l
+top_entries i o (Some (Ok (token.Outdent m k)) ∷ l) = top_entries i (suc o) l
+top_entries i o (Some (Ok (token.ListItem m)) ∷ l) = let r = top_entries i o l in cond (eqb i o) (token.ListItem m ∷ r) r
+top_entries i o (Some (Ok (token.MapKey m p)) ∷ l) = let r = top_entries i o l in cond (eqb i o) (token.MapKey m p ∷ r) r
+top_entries i o (Some (Ok (token.Newline m)) ∷ l) = top_entries i o l
+top_entries i o (Some (Ok (token.Comment m p)) ∷ l) = top_entries i o l
+top_entries i o (Some (Ok (token.Value m p)) ∷ l) = top_entries i o l
+top_entries i o (Some (Ok (token.MultilineHint m p)) ∷ l) = top_entries i o l
+top_entries i o (Some (Ok (token.MultilineValue m q p)) ∷ l) = top_entries i o l
+top_entries i o (Some (Ok (token.NoValue m)) ∷ l) = top_entries i o l
 
 -- the sort that a key or an item is of
 abbrev pub entry_sort : Token → Sort
@@ -144,7 +135,7 @@ entry_sort (token.MapKey m p) = Map
 entry_sort (token.Newline m) = Unset
 entry_sort (token.Comment m p) = Unset
 entry_sort (token.Indent m) = Unset
-entry_sort (token.Outdent m) = Unset
+entry_sort (token.Outdent m o) = Unset
 entry_sort (token.Value m p) = Unset
 entry_sort (token.MultilineHint m p) = Unset
 entry_sort (token.MultilineValue m q p) = Unset

@@ -1,30 +1,25 @@
 -- Law: document 01, 'Parser', and document 02, request 5, the line that a section's record keeps: the state, and the
 -- step over it. 12, then 15, then End once refused, then the rules.
-use Rattle.std.specs.Prelude.{ℕ, zero, suc, ◌+◌, ◌-◌, ◌≤◌, ◌<◌, List, Bool, false, cond, leb, ltb, length, get_or, set, replicate}
-use Rattle.text.specs.Numbers.{max_document, max_open, too_long, unfit_state}
-use Rattle.tokenizer.specs.Step.{fit}
-use Rattle.tokenizer.specs.Step.{step_of as token_step}
-use Rattle.tokenizer.specs.Step.{fresh as fresh_tokenizer}
-use Rattle.tokenizer.specs.declared.state.Answer.{Answer as Came}
-use Rattle.tokenizer.specs.declared.state.Answer.TheVariants as came
+use Rattle.std.specs.Prelude.{Option, Some, None, Ok, Err, ℕ, zero, suc, ◌+◌, ◌-◌, ◌≤◌, ◌<◌, List, Bool, false, cond, leb, ltb, length, get_or, set, replicate}
+use Rattle.tokenizer.specs.Token.{Answer as Came}
+use Rattle.text.specs.Numbers.{error, max_document, max_open}
+use Rattle.text.specs.declared.refusals.Refusal.{Refusal}
+use Rattle.text.specs.declared.refusals.Refusal.TheVariants.{TooLong, UnfitState}
+use Rattle.tokenizer.specs.Step.{fit, step_of as token_step, fresh as fresh_tokenizer}
 use Rattle.tokenizer.specs.declared.state.State.{State as Tokenizer}
-use Rattle.tokenizer.specs.declared.state.Step.{Step as TokenStep}
 use Rattle.parser_rules.specs.Ruling.{ruling_of}
-use Rattle.parser_rules.specs.declared.ruling.Answer.TheVariants as answer
 use Rattle.parser_rules.specs.declared.ruling.Sort.TheVariants.{Unset}
 use Rattle.parser_rules.specs.declared.ruling.Awaited.TheVariants as awaited
 use Rattle.parser_rules.specs.declared.ruling.Kept.{Kept}
 use Rattle.parser_rules.specs.declared.ruling.Kept.TheVariants as kept
-use Rattle.parser_rules.specs.declared.ruling.Innermost.{Innermost}
-use Rattle.parser_rules.specs.declared.ruling.Innermost.TheVariants.{Missing, Of}
 use Rattle.parser_rules.specs.declared.ruling.Change.{Change}
 use Rattle.parser_rules.specs.declared.ruling.Change.TheVariants.{Keep, Fix, Open, Close}
 use Rattle.parser_rules.specs.declared.ruling.Verdict.{Verdict}
 use Rattle.parser_rules.specs.declared.ruling.Ruling.{Ruling}
 use Rattle.parser_rules.specs.declared.ruling.Ruling.TheVariants.{Says, End, Unfit}
-use Rattle.parser.specs.declared.state.Section.{Section}
+use Rattle.parser_rules.specs.declared.ruling.Section.{Section}
 use Rattle.parser.specs.declared.state.State.{State}
-use Rattle.parser.specs.declared.state.Step.{Step}
+use Rattle.tokenizer.specs.declared.state.Step.{Step}
 
 -- the most sections that the record has: the top level, and those above it that may be open
 abbrev pub max_sections : ℕ
@@ -39,9 +34,9 @@ abbrev pub no_sort : Section
 no_sort = unsorted 0
 
 -- the innermost of the first count sections; an empty record has none, nor has one that counts over 65
-unfoldable pub innermost_of : List Section → ℕ → Innermost
-innermost_of l zero = Missing
-innermost_of l (suc n) = cond (ltb n max_sections) (Of (get_or l n no_sort).sort (get_or l n no_sort).line) Missing
+unfoldable pub innermost_of : List Section → ℕ → Option Section
+innermost_of l zero = None
+innermost_of l (suc n) = cond (ltb n max_sections) (Some (get_or l n no_sort)) None
 
 -- no room for one more
 abbrev pub full_of : ℕ → Bool
@@ -78,33 +73,33 @@ after_verdict s t v = record {
 }
 
 -- a refusal that gives the very state back
-abbrev pub refusal : ℕ → State → Step
-refusal n s = record { answer = answer.Refused n 0; state = s }
+abbrev pub refusal : Refusal → State → Step State
+refusal r s = record { answer = Some (Err (error r 0)); state = s }
 
-abbrev pub on_ruling : Ruling → State → Tokenizer → Step
+abbrev pub on_ruling : Ruling → State → Tokenizer → Step State
 on_ruling (Says v) s t = record { answer = v.answer; state = after_verdict s t v }
-on_ruling End s t = record { answer = answer.End; state = s }
-on_ruling Unfit s t = refusal unfit_state s
+on_ruling End s t = record { answer = None; state = s }
+on_ruling Unfit s t = refusal UnfitState s
 
 -- what is made of what came, t being the tokenizer's state after it
-unfoldable pub step_with : State → Came → Tokenizer → Step
+unfoldable pub step_with : State → Came → Tokenizer → Step State
 step_with s c t = on_ruling (ruling_of s.awaited (innermost_of s.sections s.count) (full_of s.count) c) s t
 
 -- what was kept comes again, else the tokenizer's next answer
-abbrev pub came_of : List ℕ → Tokenizer → Kept → TokenStep
+abbrev pub came_of : List ℕ → Tokenizer → Kept → Step Tokenizer
 came_of d t kept.Nothing = token_step d t
-came_of d t kept.End = record { answer = came.End; state = t }
-came_of d t (kept.Token x) = record { answer = came.Token x; state = t }
+came_of d t kept.End = record { answer = None; state = t }
+came_of d t (kept.Token x) = record { answer = Some (Ok x); state = t }
 
-unfoldable pub step_kept : List ℕ → State → Kept → Step
+unfoldable pub step_kept : List ℕ → State → Kept → Step State
 step_kept d s k = step_with s (came_of d s.tokenizer k).answer (came_of d s.tokenizer k).state
 
 -- the step
-unfoldable pub step_of : List ℕ → State → Step
+unfoldable pub step_of : List ℕ → State → Step State
 step_of d s =
-    cond (ltb max_document (length d)) (refusal too_long s)
-    (cond (fit (length d) s.tokenizer) (cond s.refused (record { answer = answer.End; state = s }) (step_kept d s s.kept))
-    (refusal unfit_state s))
+    cond (ltb max_document (length d)) (refusal TooLong s)
+    (cond (fit (length d) s.tokenizer) (cond s.refused (record { answer = None; state = s }) (step_kept d s s.kept))
+    (refusal UnfitState s))
 
 -- the fresh state: the top level is a section of no sort yet
 unfoldable pub fresh : State

@@ -3,5 +3,6 @@
 
 mod state;
 
-pub use parser_rules::{Answer, Awaited, Kept, Sort};
-pub use state::{Section, State, Step};
+pub use parser_rules::{Awaited, Kept, Section, Sort};
+pub use state::State;
+pub use tokenizer::{Answer, Step};

@@ -1,6 +1,6 @@
 // The parser's state by value, and the step over it.
+ghost use Rattle.tokenizer.specs.Token.{values_of};
 ghost use Rattle.std.specs.Prelude.{◌≡◌, ◌-◌, ◌≤◌, ◌<◌, get_or, set};
-ghost use Rattle.parser_rules.specs.Ruling.{values_of};
 ghost use Rattle.parser.specs.Step.{
   max_sections,
   no_sort,
@@ -17,14 +17,9 @@ ghost use Rattle.parser.specs.Step.{
   fresh,
 };
 
-use parser_rules::{Answer, Awaited, Change, Innermost, Kept, Ruling, Sort, Verdict, rule};
-
-// An open section: its sort, and the line of the key or item that opened it. The first is the top level, of line 0.
-#[derive(Clone, Copy)]
-pub struct Section {
-    pub sort: Sort,
-    pub line: usize,
-}
+use parser_rules::{Awaited, Change, Kept, Ruling, Section, Sort, Verdict, rule};
+use text::{Refusal, SyntaxError};
+use tokenizer::{Answer, Step};
 
 // Where the parsing stands. The open sections, the Rust's stack, are the first `count` of `sections`.
 #[derive(Clone, Copy)]
@@ -35,12 +30,6 @@ pub struct State {
     pub refused: bool,
     pub sections: [Section; 65],
     pub count: usize,
-}
-
-#[derive(Clone, Copy)]
-pub struct Step {
-    pub answer: Answer,
-    pub state: State,
 }
 
 fn fixed(sections: [Section; 65], count: usize, sort: Sort) -> [Section; 65]
@@ -69,6 +58,7 @@ fn opened(sections: [Section; 65], count: usize, line: usize) -> [Section; 65]
     out
 }
 
+#[tactic(auto, unfolding(crate::specs::Step::sections_after))]
 fn sections_after(change: Change, sections: [Section; 65], count: usize) -> [Section; 65]
     requires { ChangeFits change count }
     ensures { result ≡ sections_after change sections count }
@@ -81,6 +71,7 @@ fn sections_after(change: Change, sections: [Section; 65], count: usize) -> [Sec
     }
 }
 
+#[tactic(auto, unfolding(crate::specs::Step::count_after))]
 fn count_after(change: Change, count: usize) -> usize
     requires { ChangeFits change count }
     ensures { result ≡ count_after change count }
@@ -94,32 +85,30 @@ fn count_after(change: Change, count: usize) -> usize
 }
 
 // The innermost section; a record that counts over 65 has none that can be used.
-fn innermost(sections: [Section; 65], count: usize) -> Innermost
+fn innermost(sections: [Section; 65], count: usize) -> Option<Section>
     ensures { result ≡ innermost_of sections count }
 {
     if count == 0 {
-        return Innermost::Missing;
+        return None;
     }
     if 65 < count {
-        return Innermost::Missing;
+        return None;
     }
-    let s = sections[count - 1];
-    let sort = s.sort;
-    Innermost::Of(sort, s.line)
+    Some(sections[count - 1])
 }
 
 // What was kept comes again, else the tokenizer's next answer.
-fn came(kept: Kept, tokenizer: tokenizer::State, doc: &[u8]) -> tokenizer::Step
+fn came(kept: Kept, tokenizer: tokenizer::State, doc: &[u8]) -> Step<tokenizer::State>
     ensures { result ≡ came_of doc.now tokenizer kept }
 {
     match kept {
         Kept::Nothing => tokenizer.step(doc),
-        Kept::End => tokenizer::Step {
-            answer: tokenizer::Answer::End,
+        Kept::End => Step {
+            answer: None,
             state: tokenizer,
         },
-        Kept::Token(t) => tokenizer::Step {
-            answer: tokenizer::Answer::Token(t),
+        Kept::Token(t) => Step {
+            answer: Some(Ok(t)),
             state: tokenizer,
         },
     }
@@ -127,6 +116,7 @@ fn came(kept: Kept, tokenizer: tokenizer::State, doc: &[u8]) -> tokenizer::Step
 
 impl State {
     // The state in which every parsing begins.
+    #[tactic(auto, unfolding(crate::specs::Step::fresh))]
     pub fn new() -> State
         ensures { result ≡ fresh }
     {
@@ -144,6 +134,7 @@ impl State {
     }
 
     // The state after a verdict, with the tokenizer's.
+    #[tactic(auto, unfolding(crate::specs::Step::after_verdict))]
     fn after(self, tokenizer: tokenizer::State, v: Verdict) -> State
         requires { ChangeFits v.change self.count }
         ensures { result ≡ after_verdict self tokenizer v }
@@ -165,7 +156,7 @@ impl State {
     }
 
     // What is made of what came, with the tokenizer's state after it.
-    fn step_with(self, came: tokenizer::Answer, tokenizer: tokenizer::State) -> Step
+    fn step_with(self, came: Answer, tokenizer: tokenizer::State) -> Step<State>
         ensures { result ≡ step_with self came tokenizer }
     {
         let awaited = self.awaited;
@@ -178,18 +169,22 @@ impl State {
                 Step { answer, state }
             }
             Ruling::End => Step {
-                answer: Answer::End,
+                answer: None,
                 state: self,
             },
             Ruling::Unfit => Step {
-                answer: Answer::Refused(15, 0),
+                answer: Some(Err(SyntaxError {
+                    refusal: Refusal::UnfitState,
+                    line: 0,
+                })),
                 state: self,
             },
         }
     }
 
     // What is made of what was kept, or of the tokenizer's next answer.
-    fn step_kept(self, doc: &[u8]) -> Step
+    #[tactic(auto, unfolding(crate::specs::Step::step_kept))]
+    fn step_kept(self, doc: &[u8]) -> Step<State>
         ensures { result ≡ step_kept doc.now self self.kept }
     {
         let kept = self.kept;
@@ -201,26 +196,32 @@ impl State {
     }
 
     // One step: the answer, and the state for the next call. 12, 15 and End give the very state back.
-    pub fn step(self, doc: &[u8]) -> Step
+    pub fn step(self, doc: &[u8]) -> Step<State>
         ensures answer_value { values_of result.answer ≡ values_of (step_of doc.now self).answer }
         ensures state_value { result.state ≡ (step_of doc.now self).state }
     {
         if tokenizer::State::MAX_DOCUMENT < doc.len() {
             return Step {
-                answer: Answer::Refused(12, 0),
+                answer: Some(Err(SyntaxError {
+                    refusal: Refusal::TooLong,
+                    line: 0,
+                })),
                 state: self,
             };
         }
         let tokenizer = self.tokenizer;
         if !tokenizer.fits(doc.len()) {
             return Step {
-                answer: Answer::Refused(15, 0),
+                answer: Some(Err(SyntaxError {
+                    refusal: Refusal::UnfitState,
+                    line: 0,
+                })),
                 state: self,
             };
         }
         if self.refused {
             return Step {
-                answer: Answer::End,
+                answer: None,
                 state: self,
             };
         }

@@ -1,5 +1,7 @@
 -- Claims 1 and 2 for the parser, proved: the parser's steps along the reading of a document, from the fresh states; and a state has
 -- only one parsing.
+use Rattle.std.specs.Prelude.{None}
+use Rattle.tokenizer.specs.Token.{Answer}
 use Prim.Native.Nat.{ℕ, ◌*◌, ◌≤◌}
 use mathlib.Core.Path.{◌≡◌, refl, sym, ap, ◌∙◌, subst}
 use mathlib.Core.List.{List}
@@ -9,24 +11,22 @@ use lib.Dec.{ltb}
 use lib.ListN.{length}
 use borrow.Author.Tests.{ltb-true, ltb-false, lt-ltb, le-ltb}
 use Rattle.text.proofs.Cases.{by_bool}
-use Rattle.tokenizer.specs.Lists.{tokens}
+use Rattle.tokenizer.specs.Lists.{tokens, is_end}
 use Rattle.tokenizer.specs.Step.{fresh as fresh_tokenizer}
 use Rattle.tokenizer_claims.proofs.Sound.{fresh-sound}
 use Rattle.tokenizer_claims.proofs.Claimed.{ends as reading-ends}
 use Rattle.parser.specs.Step.{fresh}
-use Rattle.parser.specs.Lists.{is_end, Parses, ends as at-end, says, ParseList, over, read, parsed, fresh_stand, parse}
-use Rattle.parser_rules.specs.declared.ruling.Answer.{Answer}
-use Rattle.parser_rules.specs.declared.ruling.Answer.TheVariants as answer
+use Rattle.parser.specs.Lists.{Parses, ends as at-end, says, ParseList, over, read, parsed, fresh_stand, parse}
 use Rattle.parser.specs.declared.state.State.{State}
-use Rattle.parser.specs.declared.state.Step.{Step}
 use Rattle.parser_claims.specs.Claims.{Ends, Lists, Fit}
 use Rattle.parser_claims.proofs.Tokens.{room}
 use Rattle.parser_claims.proofs.Rulings.{Tied}
 use Rattle.parser_claims.proofs.Sections.{none, one}
 use Rattle.parser_claims.proofs.Steps.{Comes, comes}
+use Rattle.tokenizer.specs.declared.state.Step.{Step}
 
 -- after End nothing is said
-no_more : {x : Step} {a : Answer} {p : State} → x.answer ≡ answer.End → x ≡ record { answer = a; state = p } → is_end a ≡ false → ⊥
+no_more : {x : Step State} {a : Answer} {p : State} → x.answer ≡ None → x ≡ record { answer = a; state = p } → is_end a ≡ false → ⊥
 unfolding is_end
 no_more e q f = false≢true (sym f ∙ ap is_end (rw q at e))
 

@@ -1,4 +1,5 @@
 -- The laws by which loops go, from the parsing of the whole document.
+use Rattle.tokenizer.specs.Token.{Answer}
 use Prim.Native.Nat.{ℕ, zero, suc, ◌*◌, ◌≤◌}
 use mathlib.Core.Path.{◌≡◌, refl, sym, ap, ◌∙◌}
 use mathlib.Core.List.{List, [], ◌∷◌}
@@ -6,14 +7,14 @@ use mathlib.Core.Bool.{true, false, false≢true}
 use native.Mathlib.Omega.{arith}
 use lib.ListN.{length}
 use Rattle.parser.specs.Step.{step_of}
-use Rattle.parser.specs.Lists.{is_end, Parses, ends, says}
-use Rattle.parser_rules.specs.declared.ruling.Answer.{Answer}
+use Rattle.parser.specs.Lists.{Parses, ends, says}
+use Rattle.tokenizer.specs.Lists.{is_end}
 use Rattle.parser.specs.declared.state.State.{State}
-use Rattle.parser.specs.declared.state.Step.{Step}
 use Rattle.parser_claims.specs.Claims.{Fits, All}
 use Rattle.parser_claims.specs.Rests.{up_to, rest, Stands, FreshStands, RestEnd, RestStep, StepFits, StepStands}
 use Rattle.parser_claims.proofs.Steps.{Comes}
 use Rattle.parser_claims.proofs.Claimed as claimed
+use Rattle.tokenizer.specs.declared.state.Step.{Step}
 
 up-to : {d : List ℕ} {s u : State} {l : List Answer} (n : ℕ) → Parses d s l u → length l ≤ n → up_to d n s ≡ l
 unfolding up_to is_end
@@ -41,7 +42,7 @@ pub rest_end : RestEnd
 rest_end d s e = up-to-end d s (2 * length d) e
 
 -- an answer that is not End, and what comes after it
-record Onward (d : List ℕ) (x : Step) (l : List Answer) : Type 0 where
+record Onward (d : List ℕ) (x : Step State) (l : List Answer) : Type 0 where
   after : List Answer
   left : l ≡ x.answer ∷ after
   fits : Fits d x.answer

@@ -1,5 +1,10 @@
 -- What the parser rules on an answer of the tokenizer, while the marks fit what is awaited: it gives the token on, or refuses by 1
 -- to 7, or says NoValue and then does one of these with what it kept. Nothing is unfit, and each answer is paid for.
+use Rattle.text.specs.Numbers.{number_of}
+use Rattle.text.specs.declared.refusals.Refusal.TheVariants.{MissingMultiline, UnexpectedKey, UnexpectedItem, UnexpectedIndent}
+use Rattle.text.specs.declared.refusals.Refusal.{Refusal}
+use Rattle.std.specs.Prelude.{Some, None, Ok, Err, Option}
+use Rattle.tokenizer.specs.Token.{Answer as Came}
 use Prim.Native.Nat.{ℕ, suc, ◌≤◌, ◌<◌}
 use mathlib.Core.Path.{◌≡◌, refl}
 use mathlib.Core.List.{List, [], ◌∷◌}
@@ -22,14 +27,11 @@ use Rattle.tokenizer.specs.declared.token.Token.TheVariants.{
   MultilineValue,
   NoValue,
 }
-use Rattle.tokenizer.specs.declared.state.Answer.{Answer as Came}
-use Rattle.tokenizer.specs.declared.state.Answer.TheVariants as came
 use Rattle.tokenizer.specs.declared.state.State.{State as Tokenizer}
 use Rattle.tokenizer_claims.specs.Claims.{Text, TokenFits as ReadFits}
 use Rattle.tokenizer_claims.proofs.Answers.{Vouched}
 use Rattle.parser_rules.specs.Ruling.{
   gives as giving,
-  gives_on,
   refuses,
   no_value,
   clashes,
@@ -47,12 +49,11 @@ use Rattle.parser_rules.specs.declared.ruling.Sort.{Sort}
 use Rattle.parser_rules.specs.declared.ruling.Sort.TheVariants.{Map, List as Listed}
 use Rattle.parser_rules.specs.declared.ruling.Awaited.{Awaited}
 use Rattle.parser_rules.specs.declared.ruling.Awaited.TheVariants as awaited
-use Rattle.parser_rules.specs.declared.ruling.Innermost.{Innermost}
 use Rattle.parser_rules.specs.declared.ruling.Kept.TheVariants as kept
 use Rattle.parser_rules.specs.declared.ruling.Change.{Change}
 use Rattle.parser_rules.specs.declared.ruling.Change.TheVariants.{Keep, Fix, Open, Close}
 use Rattle.parser_rules.specs.declared.ruling.Ruling.{Ruling}
-use Rattle.parser.specs.declared.state.Section.{Section}
+use Rattle.parser_rules.specs.declared.ruling.Section.{Section}
 use Rattle.parser_claims.specs.Claims.{TokenFits}
 use Rattle.parser_claims.proofs.Tokens.{Due, MultilineDue, room, Early, Turned, TokenTold, Told}
 
@@ -94,9 +95,9 @@ budget-lt d t u (awaited.Multiline l) h = omega arith
 
 -- a ruling that keeps nothing, u being the tokenizer's state after it, where b may be spent
 pub data Settled (d : List ℕ) (u : Tokenizer) (sections : List Section) (b : ℕ) : Ruling → Type 0 where
-  gives : {x : Token} {o : ℕ} (a : Awaited) (c : Change) → TokenFits d x → Tied d u (stand a (stack_after c sections)) → budget d u a < b
-      → Settled d u sections b (giving x o a c)
-  stops : (n : ℕ) {l : ℕ} {a : Awaited} → (1 ≤ n) × (n ≤ 7) → 0 < b → Settled d u sections b (refuses n l a)
+  gives : {x : Token} (a : Awaited) (c : Change) → TokenFits d x → Tied d u (stand a (stack_after c sections)) → budget d u a < b
+      → Settled d u sections b (giving x a c)
+  stops : (r : Refusal) {l : ℕ} {a : Awaited} → (1 ≤ number_of r) × (number_of r ≤ 7) → 0 < b → Settled d u sections b (refuses r l a)
 
 -- a ruling, and the one on what it kept
 pub data Outcome (d : List ℕ) (u : Tokenizer) (sections : List Section) (b : ℕ) : Ruling → Type 0 where
@@ -110,36 +111,36 @@ module _ (d : List ℕ) (t u : Tokenizer) where
 
   -- Outdent, and a key or item that n refuses, where nothing, or no longer a value, is awaited
   module _ (multiline : MultilineDue t → ⊥) where
-    on-outdent : (l : ℕ) (sections : List Section) → length sections ≡ suc t.depth → TokenTold d t (Outdent l) u
-        → Settled d u sections (room d t) (on_outdent (Outdent l) (innermost sections))
+    on-outdent : (l o : ℕ) (sections : List Section) → length sections ≡ suc t.depth → TokenTold d t (Outdent l o) u
+        → Settled d u sections (room d t) (on_outdent l (innermost sections))
     unfolding on_outdent
-    on-outdent l [] h w = absurd (omega arith)
-    on-outdent l (i ∷ sections) h w = gives awaited.Nothing Close tt (tied w.1 (λ x. x) multiline (omega arith)) (omega arith)
+    on-outdent l o [] h w = absurd (omega arith)
+    on-outdent l o (i ∷ sections) h w = gives awaited.Nothing Close tt (tied w.1 (λ x. x) multiline (omega arith)) (omega arith)
 
-    on-entry : (x : Token) (l : ℕ) (e : Sort) (n : ℕ) (sections : List Section) → (1 ≤ n) × (n ≤ 7) → length sections ≡ suc t.depth
+    on-entry : (x : Token) (l : ℕ) (e : Sort) (r : Refusal) (sections : List Section) → (1 ≤ number_of r) × (number_of r ≤ 7) → length sections ≡ suc t.depth
         → TokenFits d x → Turned d t u (Unit {0}) (MultilineDue t) t.depth 2
-        → Settled d u sections (room d t) (on_entry x l e n (innermost sections))
+        → Settled d u sections (room d t) (on_entry x l e r (innermost sections))
     unfolding on_entry
-    on-entry x l e n [] p h f w = absurd (omega arith)
-    on-entry x l e n (i ∷ sections) p h f w =
+    on-entry x l e r [] p h f w = absurd (omega arith)
+    on-entry x l e r (i ∷ sections) p h f w =
         on-cond (Settled d u (i ∷ sections) (room d t)) (clashes i.sort e)
-        (λ c. stops n p (omega arith))
+        (λ c. stops r p (omega arith))
         (λ c. gives (awaited.Value l) (Fix e) f (tied w (λ x. tt) multiline h) (omega arith))
 
     on-item : (l : ℕ) (sections : List Section) → length sections ≡ suc t.depth → TokenTold d t (ListItem l) u
         → Settled d u sections (room d t) (settled (innermost sections) (ListItem l))
     unfolding settled
-    on-item l sections h w = on-entry (ListItem l) l Listed 6 sections (omega arith) h tt w.1
+    on-item l sections h w = on-entry (ListItem l) l Listed UnexpectedItem sections (omega arith) h tt w.1
 
     on-key : (l : ℕ) (p : Part) (sections : List Section) → length sections ≡ suc t.depth → Text d p → TokenTold d t (MapKey l p) u
         → Settled d u sections (room d t) (settled (innermost sections) (MapKey l p))
     unfolding settled
-    on-key l p sections h f w = on-entry (MapKey l p) l Map 5 sections (omega arith) h f w.1
+    on-key l p sections h f w = on-entry (MapKey l p) l Map UnexpectedKey sections (omega arith) h f w.1
 
   module _ (sections : List Section) where
     -- Newline and Comment pass
     passes : (a : Awaited) (x : Token) → Tied d t (stand a sections) → TokenFits d x → Turned d t u (Due d t) (MultilineDue t) t.depth 1
-        → Settled d u sections (budget d t a) (gives_on x a Keep)
+        → Settled d u sections (budget d t a) (giving x a Keep)
     passes a x s f w = gives a Keep f (tied w s.value s.multiline s.sections) (budget-lt d t u a (omega arith))
 
     on-settled : (x : Token) → Tied d t (stand awaited.Nothing sections) → ReadFits d x → TokenTold d t x u
@@ -147,8 +148,8 @@ module _ (d : List ℕ) (t u : Tokenizer) where
     unfolding settled
     on-settled (Newline l) s f w = passes awaited.Nothing (Newline l) s f w
     on-settled (Comment l p) s f w = passes awaited.Nothing (Comment l p) s f w
-    on-settled (Indent l) s f w = stops 7 (omega arith) (omega arith)
-    on-settled (Outdent l) s f w = on-outdent s.multiline l sections s.sections w
+    on-settled (Indent l) s f w = stops UnexpectedIndent (omega arith) (omega arith)
+    on-settled (Outdent l o) s f w = on-outdent s.multiline l o sections s.sections w
     on-settled (ListItem l) s f w = on-item s.multiline l sections s.sections w
     on-settled (MapKey l p) s f w = on-key s.multiline l p sections s.sections f w
     on-settled (Value l p) s f w = absurd (s.value w.0)
@@ -162,7 +163,7 @@ module _ (d : List ℕ) (t u : Tokenizer) where
     after-entry n (Newline l) s f w = once (passes (awaited.Value n) (Newline l) s f w)
     after-entry n (Comment l p) s f w = once (passes (awaited.Value n) (Comment l p) s f w)
     after-entry n (Indent l) s f w = once (gives awaited.Nothing (Open n) tt (tied w.1 (λ x. x) (λ x. x) (omega arith)) (omega arith))
-    after-entry n (Outdent l) s f w = twice (on-outdent s.multiline l sections s.sections w) (omega arith)
+    after-entry n (Outdent l o) s f w = twice (on-outdent s.multiline l o sections s.sections w) (omega arith)
     after-entry n (ListItem l) s f w = twice (on-item s.multiline l sections s.sections w) (omega arith)
     after-entry n (MapKey l p) s f w = twice (on-key s.multiline l p sections s.sections f w) (omega arith)
     after-entry n (Value l p) s f w = once (gives awaited.Nothing Keep f (tied w.1 (λ x. x) s.multiline s.sections) (omega arith))
@@ -171,8 +172,8 @@ module _ (d : List ℕ) (t u : Tokenizer) where
     after-entry n (MultilineValue l i p) s f w = absurd (s.multiline w.0)
     after-entry n (NoValue l) s f w = absurd w
 
-    refused : (n : ℕ) → Settled d u sections (suc (room d t)) (refuses 4 n awaited.Nothing)
-    refused n = stops 4 (omega arith) (omega arith)
+    refused : (n : ℕ) → Settled d u sections (suc (room d t)) (refuses MissingMultiline n awaited.Nothing)
+    refused n = stops MissingMultiline (omega arith) (omega arith)
 
     after-hint : (n : ℕ) (x : Token) → Tied d t (stand (awaited.Multiline n) sections) → ReadFits d x → TokenTold d t x u
         → Settled d u sections (suc (room d t)) (after_hint n x)
@@ -180,7 +181,7 @@ module _ (d : List ℕ) (t u : Tokenizer) where
     after-hint n (Newline l) s f w = passes (awaited.Multiline n) (Newline l) s f w
     after-hint n (Comment l p) s f w = passes (awaited.Multiline n) (Comment l p) s f w
     after-hint n (Indent l) s f w = refused n
-    after-hint n (Outdent l) s f w = refused n
+    after-hint n (Outdent l o) s f w = refused n
     after-hint n (ListItem l) s f w = refused n
     after-hint n (MapKey l p) s f w = refused n
     after-hint n (Value l p) s f w = refused n
@@ -198,9 +199,9 @@ module _ (d : List ℕ) (t u : Tokenizer) where
   pub outcome : (s : Stand) (c : Came) → is_end c ≡ false → Tied d t s → Vouched d t c → Told d t c u
       → Outcome d u s.sections (budget d t s.awaited) (ruled s c)
   unfolding ruling_of is_end
-  outcome s came.End e w f v = absurd (true≢false e)
-  outcome s (came.Token x) e w f v = on-token s.sections s.awaited x w f v
-  outcome s (came.Refused n l) e w f v = once (stops n (omega arith) (omega (arith, room-le d t s.awaited)))
+  outcome s None e w f v = absurd (true≢false e)
+  outcome s (Some (Ok x)) e w f v = on-token s.sections s.awaited x w f v
+  outcome s (Some (Err x)) e w f v = once (stops x.refusal (omega arith) (omega (arith, room-le d t s.awaited)))
 
 -- Where a section may still open, the record is not full, so its guard is idle.
 module _ (d : List ℕ) (t u : Tokenizer) (full : Bool) (idle : t.depth < 64 → full ≡ false) where
@@ -209,7 +210,7 @@ module _ (d : List ℕ) (t u : Tokenizer) (full : Bool) (idle : t.depth < 64 →
   entry-idle n (Newline l) w = refl
   entry-idle n (Comment l p) w = refl
   entry-idle n (Indent l) w = rw (idle w.0)
-  entry-idle n (Outdent l) w = refl
+  entry-idle n (Outdent l o) w = refl
   entry-idle n (ListItem l) w = refl
   entry-idle n (MapKey l p) w = refl
   entry-idle n (Value l p) w = refl
@@ -217,10 +218,10 @@ module _ (d : List ℕ) (t u : Tokenizer) (full : Bool) (idle : t.depth < 64 →
   entry-idle n (MultilineValue l i p) w = refl
   entry-idle n (NoValue l) w = refl
 
-  pub guard-idle : (a : Awaited) (i : Innermost) (c : Came) → Told d t c u → ruling_of a i full c ≡ ruling_of a i false c
+  pub guard-idle : (a : Awaited) (i : Option Section) (c : Came) → Told d t c u → ruling_of a i full c ≡ ruling_of a i false c
   unfolding ruling_of on_token
-  guard-idle a i came.End w = refl
-  guard-idle awaited.Nothing i (came.Token x) w = refl
-  guard-idle (awaited.Value n) i (came.Token x) w = entry-idle n x w
-  guard-idle (awaited.Multiline n) i (came.Token x) w = refl
-  guard-idle a i (came.Refused n l) w = refl
+  guard-idle a i None w = refl
+  guard-idle awaited.Nothing i (Some (Ok x)) w = refl
+  guard-idle (awaited.Value n) i (Some (Ok x)) w = entry-idle n x w
+  guard-idle (awaited.Multiline n) i (Some (Ok x)) w = refl
+  guard-idle a i (Some (Err e)) w = refl

@@ -12,7 +12,7 @@ use Rattle.parser.specs.Step.{unsorted, no_sort, innermost_of, sections_after, c
 use Rattle.parser.specs.Lists.{innermost, stack_after}
 use Rattle.parser_rules.specs.declared.ruling.Change.{Change}
 use Rattle.parser_rules.specs.declared.ruling.Change.TheVariants.{Keep, Fix, Open, Close}
-use Rattle.parser.specs.declared.state.Section.{Section}
+use Rattle.parser_rules.specs.declared.ruling.Section.{Section}
 
 -- the first n sections of the array are these
 pub data Shows (a : List Section) : ℕ → List Section → Type 0 where

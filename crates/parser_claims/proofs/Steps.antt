@@ -1,5 +1,7 @@
 -- The parser's steps along a reading of the tokenizer: they say the list that the parser makes of the reading's, all of it fits, and
 -- it is no longer than what there is to spend. One induction over the reading; each answer goes by its outcome.
+use Rattle.std.specs.Prelude.{Some, None, Ok, Err}
+use Rattle.tokenizer.specs.Token.{Answer as Came, Answer}
 use Prim.Native.Nat.{ℕ, ◌≤◌, ◌<◌}
 use mathlib.Core.Path.{◌≡◌, refl, ap, ◌∙◌}
 use mathlib.Core.List.{List, [], ◌∷◌, ◌++◌}
@@ -8,23 +10,19 @@ use native.Mathlib.Omega.{arith}
 use lib.ListN.{length}
 use borrow.Author.Tests.{le-ltb, lt-leb}
 use Rattle.tokenizer.specs.Step.{step_of as token_step}
-use Rattle.tokenizer.specs.Lists.{Reads, ends, says}
-use Rattle.tokenizer.specs.declared.state.Answer.{Answer as Came}
-use Rattle.tokenizer.specs.declared.state.Answer.TheVariants as came
+use Rattle.tokenizer.specs.Lists.{Reads, ends, says, is_end}
 use Rattle.tokenizer.specs.declared.state.State.{State as Tokenizer}
 use Rattle.tokenizer_claims.proofs.Sound.{Sound, sound-fit}
 use Rattle.tokenizer_claims.proofs.Claimed.{sound-kept, sound-vouches}
 use Rattle.parser_rules.specs.Ruling.{on_token, on_end, ruling_of}
 use Rattle.parser.specs.Step.{full_of, sections_after, count_after, after_verdict, on_ruling, step_with, step_kept, step_of}
-use Rattle.parser.specs.Lists.{is_end, Parses, Stand, innermost, stack_after, Fed, fed_once, fed_by, feed, parsed}
+use Rattle.parser.specs.Lists.{Parses, Stand, innermost, stack_after, Fed, fed_once, fed_by, feed, parsed}
 use Rattle.parser.specs.Lists as lists
-use Rattle.parser_rules.specs.declared.ruling.Answer.{Answer}
-use Rattle.parser_rules.specs.declared.ruling.Answer.TheVariants as answer
 use Rattle.parser_rules.specs.declared.ruling.Awaited.{Awaited}
 use Rattle.parser_rules.specs.declared.ruling.Awaited.TheVariants as awaited
 use Rattle.parser_rules.specs.declared.ruling.Kept.TheVariants as kept
 use Rattle.parser_rules.specs.declared.ruling.Ruling.{Ruling}
-use Rattle.parser.specs.declared.state.Section.{Section}
+use Rattle.parser_rules.specs.declared.ruling.Section.{Section}
 use Rattle.parser.specs.declared.state.State.{State}
 use Rattle.parser_claims.specs.Claims.{Fits, All}
 use Rattle.parser_claims.proofs.Tokens.{step-told}
@@ -41,13 +39,13 @@ pub record Comes (d : List ℕ) (p : State) (l : List Answer) (b : ℕ) : Type 0
 -- what fits is not End
 fits-goes : (d : List ℕ) (a : Answer) → Fits d a → is_end a ≡ false
 unfolding is_end
-fits-goes d answer.End f = absurd f
-fits-goes d (answer.Token t o) f = refl
-fits-goes d (answer.Refused n l) f = refl
+fits-goes d None f = absurd f
+fits-goes d (Some (Ok t)) f = refl
+fits-goes d (Some (Err e)) f = refl
 
 -- End, and one answer before what comes next
 
-ending : {d : List ℕ} {p : State} (b : ℕ) → (step_of d p).answer ≡ answer.End → Comes d p [] b
+ending : {d : List ℕ} {p : State} (b : ℕ) → (step_of d p).answer ≡ None → Comes d p [] b
 ending {p = p} b e = record { last = p; parses = lists.ends e; fits = tt; bound = omega arith }
 
 saying : {d : List ℕ} {p q : State} {a : Answer} {l : List Answer} {b c : ℕ} → step_of d p ≡ record { answer = a; state = q } → Fits d a
@@ -78,7 +76,7 @@ module _ (d : List ℕ) (h : length d ≤ 16777216) where
   unfolding step_of
   step-ruled p o r = rw (le-ltb 16777216 (length d) h, sound-fit d p.tokenizer o, r)
 
-  step-refused : (p : State) → Sound d p.tokenizer → p.refused ≡ true → (step_of d p).answer ≡ answer.End
+  step-refused : (p : State) → Sound d p.tokenizer → p.refused ≡ true → (step_of d p).answer ≡ None
   unfolding step_of
   step-refused p o r = rw (le-ltb 16777216 (length d) h, sound-fit d p.tokenizer o, r)
 
@@ -100,7 +98,7 @@ module _ (d : List ℕ) (h : length d ≤ 16777216) where
         saying e tt (on-settled (stand awaited.Nothing s.sections) _ m x (step-ruled _ o refl ∙ rw (shows-innermost m.shows l))) z
 
   -- the end of the reading
-  module _ (t : Tokenizer) (o : Sound d t) (e : (token_step d t).answer ≡ came.End) (a : List Section) (n : ℕ) where
+  module _ (t : Tokenizer) (o : Sound d t) (e : (token_step d t).answer ≡ None) (a : List Section) (n : ℕ) where
     step_end : (w : Awaited) → step_of d (parser_at t w a n) ≡ on_ruling (on_end w) (parser_at t w a n) (token_step d t).state
     unfolding ruling_of step_with step_kept
     step_end w = step-ruled (parser_at t w a n) o refl ∙ rw e

@@ -2,6 +2,8 @@
 -- open sections, and what it spends. A Value or hint needs the value mark, which only a key or item sets, and a
 -- multiline value the multiline mark, which only a hint sets; an Indent finds fewer than 64 sections open, an Outdent
 -- at least one; a key or item has a line. One walk through the leaves of the plan shows it.
+use Rattle.std.specs.Prelude.{Some, None, Ok, Err, Option}
+use Rattle.tokenizer.specs.Token.{Answer}
 use Prim.Native.Nat.{ℕ, suc, ◌+◌, ◌*◌, ◌-◌, ◌≤◌, ◌<◌}
 use mathlib.Core.Path.{◌≡◌, refl, sym, ap, ◌∙◌}
 use mathlib.Core.List.{List, [], ◌∷◌}
@@ -19,8 +21,6 @@ use Rattle.tokenizer_scans.specs.Scans.{blanks, plain_end, text_end, checked_of,
 use Rattle.tokenizer_rules.specs.Plan.{said, with_value, hint_marks, cleared, plan_newline, plan_comment, plan_item, plan_key, plan_plain, plan_multiline, plan_outdent}
 use Rattle.tokenizer.specs.Step.{bytes_of, size_of, after_plan, step_with, step_rule, step_of}
 use Rattle.tokenizer.specs.Lists.{is_end}
-use Rattle.tokenizer_scans.specs.declared.readers.Text.{Text}
-use Rattle.tokenizer_scans.specs.declared.readers.Text.TheVariants.{Good, Bad}
 use Rattle.tokenizer_rules.specs.declared.plan.Marks.{Marks}
 use Rattle.tokenizer_rules.specs.declared.plan.Says.{Says}
 use Rattle.tokenizer.specs.declared.token.Token.{Token}
@@ -36,10 +36,6 @@ use Rattle.tokenizer.specs.declared.token.Token.TheVariants.{
   MultilineValue,
   NoValue,
 }
-use Rattle.tokenizer.specs.declared.state.Answer.{Answer}
-use Rattle.tokenizer.specs.declared.state.Answer.TheVariants as answer
-use Rattle.tokenizer.specs.declared.state.Held.{Held}
-use Rattle.tokenizer.specs.declared.state.Held.TheVariants.{Nothing, At}
 use Rattle.tokenizer.specs.declared.state.State.{State}
 use Rattle.tokenizer_rules.proofs.PlanCases.{plan_hinted, Entry, later, first}
 use Rattle.tokenizer.proofs.Bounds.{Bounded, rest-size}
@@ -50,7 +46,7 @@ use Rattle.tokenizer_claims.proofs.Weight.{count, held_size, weight, other-pos, 
 abbrev pub left : List ℕ → State → List ℕ
 left d t = drop (size_of t.held (rest_of d t)) (rest_of d t)
 
--- A value is due: the mark stands, and something is left. At the end of the document Outdents leave a mark that nothing answers.
+-- A value is due: the mark stands, and something is left. Some the end of the document Outdents leave a mark that nothing answers.
 pub record Due (d : List ℕ) (t : State) : Type 0 where
   pub more : left d t ≡ [] → ⊥
   pub mark : t.marks.value ≡ true
@@ -78,7 +74,7 @@ abbrev pub TokenTold : List ℕ → State → Token → State → Type 0
 TokenTold d t (Newline l) u = Turned d t u (Due d t) (MultilineDue t) t.depth 1
 TokenTold d t (Comment l p) u = Turned d t u (Due d t) (MultilineDue t) t.depth 1
 TokenTold d t (Indent l) u = (t.depth < 64) × Turned d t u ⊥ ⊥ (suc t.depth) 1
-TokenTold d t (Outdent l) u = (0 < t.depth) × Turned d t u ⊥ (MultilineDue t) (t.depth - 1) 1
+TokenTold d t (Outdent l o) u = (0 < t.depth) × Turned d t u ⊥ (MultilineDue t) (t.depth - 1) 1
 TokenTold d t (ListItem l) u = (0 < l) × Turned d t u (Unit {0}) (MultilineDue t) t.depth 2
 TokenTold d t (MapKey l p) u = (0 < l) × Turned d t u (Unit {0}) (MultilineDue t) t.depth 2
 TokenTold d t (Value l p) u = Due d t × Turned d t u ⊥ (MultilineDue t) t.depth 0
@@ -87,9 +83,9 @@ TokenTold d t (MultilineValue l i p) u = MultilineDue t × Turned d t u ⊥ ⊥ 
 TokenTold d t (NoValue l) u = ⊥
 
 abbrev pub Told : List ℕ → State → Answer → State → Type 0
-Told d t answer.End u = Unit {0}
-Told d t (answer.Token k) u = TokenTold d t k u
-Told d t (answer.Refused n l) u = 1 ≤ room d t
+Told d t None u = Unit {0}
+Told d t (Some (Ok k)) u = TokenTold d t k u
+Told d t (Some (Err e)) u = 1 ≤ room d t
 
 count-le : (t : Bool) → count t ≤ 1
 count-le true = omega arith
@@ -103,14 +99,14 @@ entry-multiline : {m n : Marks} {inner indent : List ℕ} → Entry m inner inde
 entry-multiline (later e) u = u
 entry-multiline (first e q) u = absurd (false≢true u)
 
-hint-value : (x : Text) (m : Marks) → (hint_marks x m).value ≡ m.value
-hint-value (Good p) m = refl
-hint-value Bad m = refl
+hint-value : (x : Option Part) (m : Marks) → (hint_marks x m).value ≡ m.value
+hint-value (Some p) m = refl
+hint-value None m = refl
 
 -- where nothing stands after the indentation, nothing does once it is no longer held
-none_left : (h : Held) (r : List ℕ) → drop (size_of h r) r ≡ [] → drop (blanks r) r ≡ []
-none_left Nothing r q = q
-none_left (At p) r q = rw q (drop-nil (blanks []))
+none_left : (h : Option Part) (r : List ℕ) → drop (size_of h r) r ≡ [] → drop (blanks r) r ≡ []
+none_left None r q = q
+none_left (Some p) r q = rw q (drop-nil (blanks []))
 
 module _ (d : List ℕ) (t : State) where
   -- no value mark is left
@@ -130,10 +126,10 @@ module _ (d : List ℕ) (t : State) where
   }
 
   -- a text that was read, said as f does
-  said-told : (f : Part → Says) (x : Text) (u : State) → 1 ≤ room d t → ((p : Part) → x ≡ Good p → Told d t (answer_at d t (f p)) u)
+  said-told : (f : Part → Says) (x : Option Part) (u : State) → 1 ≤ room d t → ((p : Part) → x ≡ Some p → Told d t (answer_at d t (f p)) u)
       → Told d t (answer_at d t (said f x)) u
-  said-told f (Good p) u r h = h p refl
-  said-told f Bad u r h = r
+  said-told f (Some p) u r h = h p refl
+  said-told f None u r h = r
 
   tells : 0 < t.line → Early t
       → StepCases d t

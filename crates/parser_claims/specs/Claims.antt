@@ -1,12 +1,11 @@
 -- Claims about the law: 1 and 2 for the parser, over the lists of its rules. proofs/Claimed proves them.
-use Rattle.std.specs.Prelude.{ℕ, ◌*◌, ◌≤◌, ◌≡◌, List, [], ◌∷◌, length}
-use Rattle.text.specs.Numbers.{max_document, invalid_utf8, unexpected_indent}
+use Rattle.std.specs.Prelude.{Some, None, Ok, Err, ℕ, ◌*◌, ◌≤◌, ◌≡◌, List, [], ◌∷◌, length}
+use Rattle.tokenizer.specs.Token.{Answer}
+use Rattle.text.specs.Numbers.{max_document, invalid_utf8, unexpected_indent, number_of}
 use Rattle.tokenizer.specs.declared.token.Token.{Token}
 use Rattle.tokenizer_claims.specs.Claims.{PartsFit}
 use Rattle.parser.specs.Step.{fresh}
 use Rattle.parser.specs.Lists.{Parses, ParseList, parse}
-use Rattle.parser_rules.specs.declared.ruling.Answer.{Answer}
-use Rattle.parser_rules.specs.declared.ruling.Answer.TheVariants as answer
 use Rattle.parser.specs.declared.state.State.{State}
 
 -- Claim 1, Ends. The parsing of a document of n bytes within the limit gives at most 2n answers, then End
@@ -31,9 +30,9 @@ TokenFits d t = PartsFit (Unit {0}) d t
 
 -- an answer of a parsing: a token whose parts lie within the document and are UTF-8, or a refusal 1 to 7
 abbrev pub Fits : List ℕ → Answer → Type 0
-Fits d answer.End = ⊥
-Fits d (answer.Token t o) = TokenFits d t
-Fits d (answer.Refused n l) = (invalid_utf8 ≤ n) × (n ≤ unexpected_indent)
+Fits d None = ⊥
+Fits d (Some (Ok t)) = TokenFits d t
+Fits d (Some (Err e)) = (invalid_utf8 ≤ number_of e.refusal) × (number_of e.refusal ≤ unexpected_indent)
 
 abbrev pub All : (Answer → Type 0) → List Answer → Type 0
 All P [] = Unit {0}

@@ -1,8 +1,9 @@
 -- What is left of a parsing, as a function of its state: the laws by which the loops of the library go. Its length is their measure.
+use Rattle.tokenizer.specs.Token.{Answer}
 use Rattle.std.specs.Prelude.{ℕ, zero, suc, ◌*◌, ◌≤◌, ◌≡◌, List, [], ◌∷◌, true, false, cond, length}
 use Rattle.parser.specs.Step.{step_of, fresh}
-use Rattle.parser.specs.Lists.{is_end, Parses, parse}
-use Rattle.parser_rules.specs.declared.ruling.Answer.{Answer}
+use Rattle.parser.specs.Lists.{Parses, parse}
+use Rattle.tokenizer.specs.Lists.{is_end}
 use Rattle.parser.specs.declared.state.State.{State}
 use Rattle.parser_claims.specs.Claims.{Fits, All}
 

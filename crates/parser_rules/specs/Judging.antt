@@ -1,20 +1,18 @@
 -- Intermediate: what the parser makes of an answer of the tokenizer, by the answer's number; and the ruling that stands
 -- for. proofs/Law shows that it is the law's ruling.
-use Rattle.std.specs.Prelude.{ℕ, Bool, cond, eqb, leb}
-use Rattle.text.specs.Numbers.{missing_multiline, unexpected_key, unexpected_item, unexpected_indent}
-use Rattle.tokenizer.specs.Token.{refusal_number, line_of}
+use Rattle.std.specs.Prelude.{Option, Some, None, Ok, Err, ℕ, Bool, cond, eqb, leb}
+use Rattle.tokenizer.specs.Token.{Answer as Came, refusal_number, line_of}
+use Rattle.text.specs.declared.refusals.Refusal.TheVariants.{MissingMultiline, UnexpectedKey, UnexpectedItem, UnexpectedIndent}
 use Rattle.tokenizer.specs.declared.token.Token.TheVariants as token
 use Rattle.tokenizer.specs.declared.token.Token.{Token}
-use Rattle.tokenizer.specs.declared.state.Answer.{Answer as Came}
-use Rattle.tokenizer.specs.declared.state.Answer.TheVariants as came
-use Rattle.parser_rules.specs.Ruling.{gives, gives_on, refuses, no_value}
+use Rattle.parser_rules.specs.Ruling.{gives, refuses, no_value}
 use Rattle.parser_rules.specs.declared.ruling.Sort.TheVariants as sort
 use Rattle.parser_rules.specs.declared.ruling.Awaited.{Awaited}
 use Rattle.parser_rules.specs.declared.ruling.Awaited.TheVariants as awaited
 use Rattle.parser_rules.specs.declared.ruling.Kept.{Kept}
 use Rattle.parser_rules.specs.declared.ruling.Kept.TheVariants as kept
-use Rattle.parser_rules.specs.declared.ruling.Innermost.{Innermost}
-use Rattle.parser_rules.specs.declared.ruling.Innermost.TheVariants.{Missing, Of}
+use Rattle.parser_rules.specs.declared.ruling.Sort.{Sort}
+use Rattle.parser_rules.specs.declared.ruling.Section.{Section}
 use Rattle.parser_rules.specs.declared.ruling.Change.TheVariants as change
 use Rattle.parser_rules.specs.declared.ruling.Ruling.{Ruling}
 use Rattle.parser_rules.specs.declared.ruling.Ruling.TheVariants as ruling
@@ -22,16 +20,19 @@ use Rattle.parser_rules.specs.declared.judging.Judged.{Judged}
 use Rattle.parser_rules.specs.declared.judging.Judged.TheVariants.{GivesOn, NoValue, Opens, Closes, Map, List as Listed, Hint, Value, Passes, Refuses, RefusesEntry, End, Unfit}
 
 -- by the innermost section's sort: 0 unset, 1 map, 2 list, 3 missing
-abbrev pub sort_number : Innermost → ℕ
-sort_number Missing = 3
-sort_number (Of sort.Unset o) = 0
-sort_number (Of sort.Map o) = 1
-sort_number (Of sort.List o) = 2
+abbrev pub number_of_sort : Sort → ℕ
+number_of_sort sort.Unset = 0
+number_of_sort sort.Map = 1
+number_of_sort sort.List = 2
+
+abbrev pub sort_number : Option Section → ℕ
+sort_number None = 3
+sort_number (Some s) = number_of_sort s.sort
 
 -- the line of the key or item that opened it
-abbrev pub opened_line : Innermost → ℕ
-opened_line Missing = 0
-opened_line (Of s o) = o
+abbrev pub opened_line : Option Section → ℕ
+opened_line None = 0
+opened_line (Some s) = s.line
 
 abbrev pub awaited_number : Awaited → ℕ
 awaited_number awaited.Nothing = 0
@@ -47,14 +48,14 @@ unfoldable pub outdent_by : ℕ → Judged
 outdent_by s = cond (eqb s 3) Unfit Closes
 
 unfoldable pub item_by : ℕ → Judged
-item_by s = cond (eqb s 1) (Refuses unexpected_item) (cond (eqb s 3) Unfit Listed)
+item_by s = cond (eqb s 1) (Refuses UnexpectedItem) (cond (eqb s 3) Unfit Listed)
 
 unfoldable pub key_by : ℕ → Judged
-key_by s = cond (eqb s 2) (Refuses unexpected_key) (cond (eqb s 3) Unfit Map)
+key_by s = cond (eqb s 2) (Refuses UnexpectedKey) (cond (eqb s 3) Unfit Map)
 
 unfoldable pub settled_by : ℕ → ℕ → Judged
 settled_by n s =
-    cond (eqb n 0) End (cond (eqb n 1) GivesOn (cond (eqb n 2) GivesOn (cond (eqb n 3) (Refuses unexpected_indent)
+    cond (eqb n 0) End (cond (eqb n 1) GivesOn (cond (eqb n 2) GivesOn (cond (eqb n 3) (Refuses UnexpectedIndent)
     (cond (eqb n 4) (outdent_by s) (cond (eqb n 5) (item_by s) (cond (eqb n 6) (key_by s) Unfit))))))
 
 unfoldable pub after_entry_by : ℕ → Bool → Judged
@@ -70,22 +71,22 @@ judged_by n a s full = cond (leb (refusal_number 0) n) Passes (cond (eqb a 1) (a
 -- the ruling that is meant, a being what was awaited, o the innermost section's line, t the token that came and k what
 -- is kept of it
 unfoldable pub made_by : Judged → Awaited → ℕ → Token → Kept → Ruling
-made_by GivesOn a o t k = gives_on t a change.Keep
+made_by GivesOn a o t k = gives t a change.Keep
 made_by NoValue a o t k = no_value (awaited_line a) k
-made_by Opens a o t k = gives_on t awaited.Nothing (change.Open (awaited_line a))
-made_by Closes a o t k = gives t o awaited.Nothing change.Close
-made_by Map a o t k = gives_on t (awaited.Value (line_of t)) (change.Fix sort.Map)
-made_by Listed a o t k = gives_on t (awaited.Value (line_of t)) (change.Fix sort.List)
-made_by Hint a o t k = gives_on t (awaited.Multiline (awaited_line a)) change.Keep
-made_by Value a o t k = gives_on t awaited.Nothing change.Keep
+made_by Opens a o t k = gives t awaited.Nothing (change.Open (awaited_line a))
+made_by Closes a o t k = gives (token.Outdent (line_of t) o) awaited.Nothing change.Close
+made_by Map a o t k = gives t (awaited.Value (line_of t)) (change.Fix sort.Map)
+made_by Listed a o t k = gives t (awaited.Value (line_of t)) (change.Fix sort.List)
+made_by Hint a o t k = gives t (awaited.Multiline (awaited_line a)) change.Keep
+made_by Value a o t k = gives t awaited.Nothing change.Keep
 made_by Passes a o t k = ruling.End
 made_by (Refuses n) a o t k = refuses n (line_of t) awaited.Nothing
-made_by RefusesEntry a o t k = refuses missing_multiline (awaited_line a) awaited.Nothing
+made_by RefusesEntry a o t k = refuses MissingMultiline (awaited_line a) awaited.Nothing
 made_by End a o t k = ruling.End
 made_by Unfit a o t k = ruling.Unfit
 
 -- of what came: a refusal is given on
 abbrev pub ruling_by : Judged → Awaited → ℕ → Came → Ruling
-ruling_by v a o came.End = made_by v a o (token.NoValue 0) kept.End
-ruling_by v a o (came.Token t) = made_by v a o t (kept.Token t)
-ruling_by v a o (came.Refused n l) = refuses n l a
+ruling_by v a o None = made_by v a o (token.NoValue 0) kept.End
+ruling_by v a o (Some (Ok t)) = made_by v a o t (kept.Token t)
+ruling_by v a o (Some (Err e)) = refuses e.refusal e.line a

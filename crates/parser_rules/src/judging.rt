@@ -2,6 +2,8 @@
 ghost use Rattle.std.specs.Prelude.{◌≡◌};
 ghost use Rattle.parser_rules.specs.Judging.{settled_by, after_entry_by, after_hint_by, judged_by};
 
+use text::Refusal;
+
 // What is made of an answer: it is given on; NoValue, and it is kept; a section opens or closes; it fixes a map or a list; it is
 // a hint; it is the value; it is a refusal and given on; it is refused by a number, on its own line or, 4, on the entry's; End; unfit.
 #[derive(Clone, Copy)]
@@ -15,13 +17,14 @@ pub enum Judged {
     Hint,
     Value,
     Passes,
-    Refuses(usize),
+    Refuses(Refusal),
     RefusesEntry,
     End,
     Unfit,
 }
 
 // Nothing is awaited: sort is the innermost section's, 0 unset, 1 map, 2 list, 3 where there is none.
+#[tactic(auto, unfolding(crate::specs::Judging::settled_by, crate::specs::Judging::outdent_by, crate::specs::Judging::item_by, crate::specs::Judging::key_by))]
 fn settle(number: usize, sort: usize) -> Judged
     ensures { result ≡ settled_by number sort }
 {
@@ -29,7 +32,7 @@ fn settle(number: usize, sort: usize) -> Judged
         0 => Judged::End,
         1 => Judged::GivesOn,
         2 => Judged::GivesOn,
-        3 => Judged::Refuses(7),
+        3 => Judged::Refuses(Refusal::UnexpectedIndent),
         4 => {
             match sort {
                 3 => Judged::Unfit,
@@ -38,14 +41,14 @@ fn settle(number: usize, sort: usize) -> Judged
         }
         5 => {
             match sort {
-                1 => Judged::Refuses(6),
+                1 => Judged::Refuses(Refusal::UnexpectedItem),
                 3 => Judged::Unfit,
                 _ => Judged::List,
             }
         }
         6 => {
             match sort {
-                2 => Judged::Refuses(5),
+                2 => Judged::Refuses(Refusal::UnexpectedKey),
                 3 => Judged::Unfit,
                 _ => Judged::Map,
             }
@@ -55,6 +58,7 @@ fn settle(number: usize, sort: usize) -> Judged
 }
 
 // After a key or item: full says that there is no room for one more section.
+#[tactic(auto, unfolding(crate::specs::Judging::after_entry_by))]
 fn after_entry(number: usize, full: bool) -> Judged
     ensures { result ≡ after_entry_by number full }
 {
@@ -69,6 +73,7 @@ fn after_entry(number: usize, full: bool) -> Judged
 }
 
 // After a hint.
+#[tactic(auto, unfolding(crate::specs::Judging::after_hint_by))]
 fn after_hint(number: usize) -> Judged
     ensures { result ≡ after_hint_by number }
 {
@@ -81,6 +86,7 @@ fn after_hint(number: usize) -> Judged
 }
 
 // What is made of an answer of that number: awaited is 1 for a value, 2 for a multiline value.
+#[tactic(auto, unfolding(crate::specs::Judging::judged_by))]
 pub fn judge(number: usize, awaited: usize, sort: usize, full: bool) -> Judged
     ensures { result ≡ judged_by number awaited sort full }
 {

@@ -5,4 +5,4 @@ mod judging;
 mod ruling;
 
 pub use judging::{Judged, judge};
-pub use ruling::{Answer, Awaited, Change, Innermost, Kept, Ruling, Sort, Verdict, rule};
+pub use ruling::{Awaited, Change, Kept, Ruling, Section, Sort, Verdict, rule};

@@ -2,20 +2,15 @@
 // judged by numbers; here the judgement becomes the ruling.
 ghost use Rattle.std.specs.Prelude.{◌≡◌};
 ghost use Rattle.tokenizer.specs.Token.{token_values};
+ghost use Rattle.tokenizer.specs.declared.token.Token.TheVariants.{Outdent};
+ghost use Rattle.parser_rules.specs.declared.ruling.Awaited.TheVariants.{Nothing};
+ghost use Rattle.parser_rules.specs.declared.ruling.Change.TheVariants.{Close};
 ghost use Rattle.parser_rules.specs.Ruling.{gives, refuses, no_value, ruling_of};
 ghost use Rattle.parser_rules.specs.Judging.{sort_number, opened_line, awaited_number, awaited_line, made_by};
 
 use crate::judging::{Judged, judge};
-use tokenizer::Token;
-
-// The parser's own answer: a token, with the line of the key or item whose section an Outdent closes, 0 for every other
-// kind; or a refusal with its number and line.
-#[derive(Clone, Copy)]
-pub enum Answer {
-    End,
-    Token(Token, usize),
-    Refused(usize, usize),
-}
+use text::{Refusal, SyntaxError};
+use tokenizer::{Answer, Token};
 
 // The sort of a section, fixed by its first key or item.
 #[derive(Clone, Copy)]
@@ -25,7 +20,8 @@ pub enum Sort {
     List,
 }
 
-// What must or may come next, with the line of the key or item that asks for it: the Rust's needs_value and multiline_hint.
+// What must or may come next, with the line of the key or item that asks for it: the Rust's needs_value and
+// multiline_hint. Two arms have a line, so that no Option would be plainer.
 #[derive(Clone, Copy)]
 pub enum Awaited {
     Nothing,
@@ -33,7 +29,8 @@ pub enum Awaited {
     Multiline(usize),
 }
 
-// What came and was kept for the next call, behind a NoValue: the Rust's peek.
+// What came and was kept for the next call, behind a NoValue: the Rust's peek. In an Option of an Option, which this is
+// in the Rust, nothing would say which of the two is End.
 #[derive(Clone, Copy)]
 pub enum Kept {
     Nothing,
@@ -41,12 +38,11 @@ pub enum Kept {
     Token(Token),
 }
 
-// The sort of the innermost section, and the line of the key or item that opened it; missing where the record of
-// sections is empty.
+// An open section: its sort, and the line of the key or item that opened it. The top level has line 0.
 #[derive(Clone, Copy)]
-pub enum Innermost {
-    Missing,
-    Of(Sort, usize),
+pub struct Section {
+    pub sort: Sort,
+    pub line: usize,
 }
 
 // What becomes of the record of sections: nothing, the innermost one's sort is fixed, one opens for the key or item of
@@ -69,7 +65,7 @@ pub struct Verdict {
     pub refused: bool,
 }
 
-// End and an unfit state, 15, change nothing.
+// End and an unfit state, 15, change nothing: they leave no verdict, and neither is a failure, so that this is no Result.
 #[derive(Clone, Copy)]
 pub enum Ruling {
     Says(Verdict),
@@ -77,12 +73,12 @@ pub enum Ruling {
     Unfit,
 }
 
-// The token is given on, with the line that it carries.
-fn gives(t: Token, opened: usize, awaited: Awaited, change: Change) -> Ruling
-    ensures { result ≡ gives t opened awaited change }
+// The token is given on.
+fn gives(t: Token, awaited: Awaited, change: Change) -> Ruling
+    ensures { result ≡ gives t awaited change }
 {
     Ruling::Says(Verdict {
-        answer: Answer::Token(t, opened),
+        answer: Some(Ok(t)),
         awaited,
         change,
         kept: Kept::Nothing,
@@ -90,12 +86,23 @@ fn gives(t: Token, opened: usize, awaited: Awaited, change: Change) -> Ruling
     })
 }
 
+// An Outdent is given on, with the line of the key or item that opened the section.
+fn close(line: usize, opened: usize) -> Ruling
+    ensures { result ≡ gives (Outdent line opened) Nothing Close }
+{
+    gives(
+        Token::Outdent(line, opened),
+        Awaited::Nothing,
+        Change::Close,
+    )
+}
+
 // A refusal: later calls give End.
-fn refuse(number: usize, line: usize, awaited: Awaited) -> Ruling
-    ensures { result ≡ refuses number line awaited }
+fn refuse(refusal: Refusal, line: usize, awaited: Awaited) -> Ruling
+    ensures { result ≡ refuses refusal line awaited }
 {
     Ruling::Says(Verdict {
-        answer: Answer::Refused(number, line),
+        answer: Some(Err(SyntaxError { refusal, line })),
         awaited,
         change: Change::Keep,
         kept: Kept::Nothing,
@@ -108,7 +115,7 @@ fn no_value(line: usize, kept: Kept) -> Ruling
     ensures { result ≡ no_value line kept }
 {
     Ruling::Says(Verdict {
-        answer: Answer::Token(Token::NoValue(line), 0),
+        answer: Some(Ok(Token::NoValue(line))),
         awaited: Awaited::Nothing,
         change: Change::Keep,
         kept,
@@ -117,6 +124,7 @@ fn no_value(line: usize, kept: Kept) -> Ruling
 }
 
 // A token's kind.
+#[tactic(auto, unfolding(tokenizer::specs::Token::token_values))]
 fn kind(t: Token) -> usize
     ensures { result ≡ (token_values t).number }
 {
@@ -124,7 +132,7 @@ fn kind(t: Token) -> usize
         Token::Newline(_) => 1,
         Token::Comment(_, _) => 2,
         Token::Indent(_) => 3,
-        Token::Outdent(_) => 4,
+        Token::Outdent(_, _) => 4,
         Token::ListItem(_) => 5,
         Token::MapKey(_, _) => 6,
         Token::Value(_, _) => 7,
@@ -134,27 +142,25 @@ fn kind(t: Token) -> usize
     }
 }
 
-fn sort_number(innermost: Innermost) -> usize
+fn sort_number(innermost: Option<Section>) -> usize
     ensures { result ≡ sort_number innermost }
 {
-    match innermost {
-        Innermost::Missing => 3,
-        Innermost::Of(s, _) => {
-            match s {
-                Sort::Unset => 0,
-                Sort::Map => 1,
-                Sort::List => 2,
-            }
-        }
+    let Some(section) = innermost else {
+        return 3;
+    };
+    match section.sort {
+        Sort::Unset => 0,
+        Sort::Map => 1,
+        Sort::List => 2,
     }
 }
 
-fn opened_line(innermost: Innermost) -> usize
+fn opened_line(innermost: Option<Section>) -> usize
     ensures { result ≡ opened_line innermost }
 {
     match innermost {
-        Innermost::Missing => 0,
-        Innermost::Of(_, line) => line,
+        None => 0,
+        Some(section) => section.line,
     }
 }
 
@@ -179,44 +185,45 @@ fn awaited_line(awaited: Awaited) -> usize
 }
 
 // The ruling on a token, and on what would be kept of it; opened is the innermost section's line.
+#[tactic(auto, unfolding(crate::specs::Judging::made_by))]
 fn made(v: Judged, awaited: Awaited, opened: usize, t: Token, kept: Kept) -> Ruling
     ensures { result ≡ made_by v awaited opened t kept }
 {
     let line = t.line_number();
     let entry = awaited_line(awaited);
     match v {
-        Judged::GivesOn => gives(t, 0, awaited, Change::Keep),
+        Judged::GivesOn => gives(t, awaited, Change::Keep),
         Judged::NoValue => no_value(entry, kept),
-        Judged::Opens => gives(t, 0, Awaited::Nothing, Change::Open(entry)),
-        Judged::Closes => gives(t, opened, Awaited::Nothing, Change::Close),
-        Judged::Map => gives(t, 0, Awaited::Value(line), Change::Fix(Sort::Map)),
-        Judged::List => gives(t, 0, Awaited::Value(line), Change::Fix(Sort::List)),
-        Judged::Hint => gives(t, 0, Awaited::Multiline(entry), Change::Keep),
-        Judged::Value => gives(t, 0, Awaited::Nothing, Change::Keep),
+        Judged::Opens => gives(t, Awaited::Nothing, Change::Open(entry)),
+        Judged::Closes => close(line, opened),
+        Judged::Map => gives(t, Awaited::Value(line), Change::Fix(Sort::Map)),
+        Judged::List => gives(t, Awaited::Value(line), Change::Fix(Sort::List)),
+        Judged::Hint => gives(t, Awaited::Multiline(entry), Change::Keep),
+        Judged::Value => gives(t, Awaited::Nothing, Change::Keep),
         Judged::Passes => Ruling::End,
         Judged::Refuses(n) => refuse(n, line, Awaited::Nothing),
-        Judged::RefusesEntry => refuse(4, entry, Awaited::Nothing),
+        Judged::RefusesEntry => refuse(Refusal::MissingMultiline, entry, Awaited::Nothing),
         Judged::End => Ruling::End,
         Judged::Unfit => Ruling::Unfit,
     }
 }
 
 // What is made of an answer of the tokenizer: full says that the record has no room for one more section.
-pub fn rule(awaited: Awaited, innermost: Innermost, full: bool, came: tokenizer::Answer) -> Ruling
+pub fn rule(awaited: Awaited, innermost: Option<Section>, full: bool, came: Answer) -> Ruling
     ensures { result ≡ ruling_of awaited innermost full came }
 {
     let a = awaited_number(awaited);
     let s = sort_number(innermost);
     let opened = opened_line(innermost);
-    match came {
-        tokenizer::Answer::End => {
-            let v = judge(0, a, s, full);
-            made(v, awaited, opened, Token::NoValue(0), Kept::End)
-        }
-        tokenizer::Answer::Token(t) => {
+    let Some(answer) = came else {
+        let v = judge(0, a, s, full);
+        return made(v, awaited, opened, Token::NoValue(0), Kept::End);
+    };
+    match answer {
+        Ok(t) => {
             let v = judge(kind(t), a, s, full);
             made(v, awaited, opened, t, Kept::Token(t))
         }
-        tokenizer::Answer::Refused(number, line) => refuse(number, line, awaited),
+        Err(e) => refuse(e.refusal, e.line, awaited),
     }
 }

@@ -1,26 +1,31 @@
 -- A parser's state is read back from its words.
+use Rattle.text.proofs.Cases.{on-cond}
+use Rattle.text.specs.declared.bytes.Part.{Part}
 use Prim.Native.Nat.{ℕ, zero, suc}
 use mathlib.Core.Path.{◌≡◌, refl, ap, ◌∙◌, sym}
 use mathlib.Core.List.{List, [], ◌∷◌, ◌++◌, append_assoc}
 use mathlib.Core.Bool.{false}
 use native.Mathlib.Omega.{arith}
 use lib.Dec.{eqb}
-use lib.ListN.{length, drop, get_or}
+use lib.ListN.{length, drop, get_or, take, get_or-eq_default, length-take}
 use lib.Seq.{drop_at, get_or-drop, drop-drop}
 use borrow.Author.Tests.{ne_eqb}
 use Rattle.parser_rules.specs.Judging.{awaited_number, awaited_line}
-use Rattle.tokenizer_rows.proofs.Back.{kinds, tokens-back}
+use Rattle.tokenizer_rows.specs.Rows.{row_of, token_by, token_in}
+use Rattle.tokenizer_rows.proofs.Back.{kinds}
+use Rattle.parser_words.specs.Claims.{KeepsNone}
 use Rattle.tokenizer_words.proofs.Slots.{words-137}
 use Rattle.tokenizer_words.proofs.Standing.{eqb-flag, state-back}
 use Rattle.tokenizer.specs.Token.{token_values}
 use Rattle.tokenizer.specs.declared.token.Token.{Token}
+use Rattle.tokenizer.specs.declared.token.Token.TheVariants as token
 use Rattle.parser_rules.specs.declared.ruling.Sort.{Sort}
 use Rattle.parser_rules.specs.declared.ruling.Sort.TheVariants as sort
 use Rattle.parser_rules.specs.declared.ruling.Awaited.{Awaited}
 use Rattle.parser_rules.specs.declared.ruling.Awaited.TheVariants as awaited
 use Rattle.parser_rules.specs.declared.ruling.Kept.{Kept}
 use Rattle.parser_rules.specs.declared.ruling.Kept.TheVariants as kept
-use Rattle.parser.specs.declared.state.Section.{Section}
+use Rattle.parser_rules.specs.declared.ruling.Section.{Section}
 use Rattle.parser.specs.declared.state.State.{State}
 use Rattle.tokenizer_words.specs.Words.{flag, words_of, state_in}
 use Rattle.parser_words.specs.ParserWords.{sort_word, section_words, awaited_words, kept_words, middle_words, parser_words, sort_in, sections_in, awaited_in, kept_in, parser_in}
@@ -31,11 +36,42 @@ not-0 t = ne_eqb (token_values t).number 0 (λ e. let k = (kinds t).0 in omega a
 pub not-11 : (t : Token) → eqb (token_values t).number 11 ≡ false
 not-11 t = ne_eqb (token_values t).number 11 (λ e. let k = (kinds t).1 in omega arith)
 
-kept_back : (k : Kept) (r : List ℕ) → kept_in (kept_words k ++ r) ≡ k
+-- the first six words of its row are enough for a token that carries no line
+six-back : (t : Token) (r : List ℕ) → (token_values t).opened ≡ 0 → token_in (take 6 (row_of (token_values t) ++ r)) ≡ t
+unfolding token_in token_by token_values
+six-back (token.Newline l) r e = refl
+six-back (token.Comment l p) r e = refl
+six-back (token.Indent l) r e = refl
+six-back (token.Outdent l o) r e = ap (token.Outdent l) (sym e)
+six-back (token.ListItem l) r e = refl
+six-back (token.MapKey l p) r e = refl
+six-back (token.Value l p) r e = refl
+six-back (token.MultilineHint l p) r e = refl
+six-back (token.MultilineValue l i p) r e = refl
+six-back (token.NoValue l) r e = refl
+
+-- and what is read from them carries none
+by-none : (n l : ℕ) (p i : Part) (o : ℕ) → o ≡ 0 → (token_values (token_by n l p i o)).opened ≡ 0
+unfolding token_by token_values
+by-none n l p i o e =
+    let None : Token → Type 0 = λ t. (token_values t).opened ≡ 0 in
+    on-cond None (eqb n 1) (λ _. refl) (λ _. on-cond None (eqb n 2) (λ _. refl) (λ _. on-cond None (eqb n 3) (λ _. refl)
+    (λ _. on-cond None (eqb n 4) (λ _. e) (λ _. on-cond None (eqb n 5) (λ _. refl) (λ _. on-cond None (eqb n 6) (λ _. refl)
+    (λ _. on-cond None (eqb n 7) (λ _. refl) (λ _. on-cond None (eqb n 8) (λ _. refl) (λ _. on-cond None (eqb n 9) (λ _. refl) (λ _. refl)))))))))
+
+pub reads-none : (w : List ℕ) → KeepsNone (parser_in w).kept
+unfolding parser_in kept_in token_in
+reads-none w =
+    let x = take 6 (drop 140 w) in
+    on-cond KeepsNone (eqb (get_or x 0 0) 0) (λ _. tt) (λ _. on-cond KeepsNone (eqb (get_or x 0 0) 11) (λ _. tt)
+    (λ _. by-none (get_or x 0 0) (get_or x 1 0) _ _ (get_or x 6 0)
+    (get_or-eq_default x 0 (omega (arith, length-take 6 (drop 140 w))))))
+
+kept_back : (k : Kept) (r : List ℕ) → KeepsNone k → kept_in (take 6 (kept_words k ++ r)) ≡ k
 unfolding kept_in kept_words
-kept_back kept.Nothing r = refl
-kept_back kept.End r = refl
-kept_back (kept.Token t) r = rw (not-0 t, not-11 t) (ap kept.Token (tokens-back t r))
+kept_back kept.Nothing r e = refl
+kept_back kept.End r e = refl
+kept_back (kept.Token t) r e = rw (not-0 t, not-11 t) (ap kept.Token (six-back t r e))
 
 sort-back : (s : Sort) → sort_in (sort_word s) ≡ s
 unfolding sort_in sort_word
@@ -135,11 +171,11 @@ module _ (s : State) (r : List ℕ) (e : length s.tokenizer.indents ≡ 64) wher
   sections-at = sym (drop-drop 8 140 (parser_words s ++ r)) ∙ ap (drop 8) kept_at ∙ past-8 s.kept s.count _
 
   -- the state is read back
-  pub parser-back : length s.sections ≡ 65 → parser_in (parser_words s ++ r) ≡ s
+  pub parser-back : length s.sections ≡ 65 → KeepsNone s.kept → parser_in (parser_words s ++ r) ≡ s
   unfolding parser_in
-  parser-back f =
+  parser-back f q =
       let t : state_in (parser_words s ++ r) ≡ s.tokenizer = ap state_in all_words ∙ state-back s.tokenizer _ e in
-      let k : kept_in (drop 140 (parser_words s ++ r)) ≡ s.kept = ap kept_in kept_at ∙ kept_back s.kept _ in
+      let k : kept_in (take 6 (drop 140 (parser_words s ++ r))) ≡ s.kept = ap (λ x. kept_in (take 6 x)) kept_at ∙ kept_back s.kept _ q in
       let a : awaited_in (get_or (parser_words s ++ r) 138 0) (get_or (parser_words s ++ r) 139 0) ≡ s.awaited =
       (λ j. awaited_in (number_word j) (line_word j)) ∙ awaited-back s.awaited in
       let b : eqb (get_or (parser_words s ++ r) 137 0) 1 ≡ s.refused = ap (λ x. eqb x 1) refused-word ∙ eqb-flag s.refused in

@@ -1,4 +1,5 @@
 -- The claims: a state is read back from its words, which are taken for a state's; rows tell answers apart; the order of the words.
+use Rattle.tokenizer.specs.Token.{values_of, token_values}
 use Prim.Native.Nat.{ℕ, zero, suc, ◌≤◌}
 use mathlib.Core.Path.{◌≡◌, refl, sym, ap, ◌∙◌}
 use mathlib.Core.List.{List, [], ◌∷◌, ◌++◌}
@@ -8,9 +9,7 @@ use lib.Dec.{leb}
 use lib.ListN.{length, get_or, length-append, length-drop}
 use lib.Seq.{get_or-drop}
 use borrow.Author.Tests.{le-leb}
-use Rattle.tokenizer.specs.Token.{token_values}
 use Rattle.tokenizer.specs.Step.{fresh as fresh_tokenizer}
-use Rattle.parser_rules.specs.Ruling.{values_of}
 use Rattle.parser_rules.specs.declared.ruling.Sort.{Sort}
 use Rattle.parser_rules.specs.declared.ruling.Sort.TheVariants as sort
 use Rattle.parser_rules.specs.declared.ruling.Awaited.{Awaited}
@@ -18,14 +17,13 @@ use Rattle.parser_rules.specs.declared.ruling.Awaited.TheVariants as awaited
 use Rattle.parser_rules.specs.declared.ruling.Kept.{Kept}
 use Rattle.parser_rules.specs.declared.ruling.Kept.TheVariants as kept
 use Rattle.parser.specs.Step.{fresh}
-use Rattle.parser.specs.declared.state.Section.{Section}
+use Rattle.parser_rules.specs.declared.ruling.Section.{Section}
 use Rattle.parser.specs.declared.state.State.{State}
-use Rattle.parser.proofs.Valued.{values-injective}
+use Rattle.tokenizer.proofs.Valued.{values-injective}
 use Rattle.tokenizer_rows.proofs.Back.{kinds}
 use Rattle.tokenizer_rows.proofs.Claimed.{rows_tell, lists-tell}
 use Rattle.tokenizer_words.specs.Words.{flag, held_words, part_words, front_words, words_of, readable}
-use Rattle.tokenizer_words.proofs.Claimed.{flag-tells}
-use Rattle.tokenizer_words.proofs.Claimed.{states-back as tokenizers-back}
+use Rattle.tokenizer_words.proofs.Claimed.{flag-tells, states-back as tokenizers-back}
 use Rattle.parser_words.specs.ParserWords.{sort_word, section_words, awaited_words, kept_words, middle_words, parser_words, are_sorts, parser_readable}
 use Rattle.parser_words.specs.Claims.{Slots, StatesBack, AnswerRows, AnswerLists, Layout}
 use Rattle.parser_words.proofs.Sections.{section-words-length}
@@ -65,7 +63,7 @@ module _ (s : State) (r : List ℕ) (h : Slots s) where
   long : 278 ≤ length (parser_words s ++ r)
   long =
       let l = rw length-drop at (ap length (sections-at s r h.0)) in
-      let m : 130 ≤ length (section_words s.sections ++ r) = rw (length-append, section-words-length, h.1) (omega arith) in
+      let m : 130 ≤ length (section_words s.sections ++ r) = rw (length-append, section-words-length, h.1.0) (omega arith) in
       omega arith
 
   parser-reads : parser_readable (parser_words s ++ r) ≡ true
@@ -77,11 +75,11 @@ module _ (s : State) (r : List ℕ) (h : Slots s) where
         ap (λ x. leb x 1) (refused-word s r h.0) ∙ flag-tells s.refused,
         ap (λ x. leb x 2) (number_word s r h.0) ∙ awaited-tells s.awaited,
         ap (λ x. leb x 11) kept_word ∙ kept-tells s.kept _,
-        ap (are_sorts 65) (sections-at s r h.0) ∙ sections-tell s.sections r 65 h.1,
+        ap (are_sorts 65) (sections-at s r h.0) ∙ sections-tell s.sections r 65 h.1.0,
       )
 
 pub states-back : StatesBack
-states-back s r h = record { state = parser-back s r h.0 h.1; reads = parser-reads s r h }
+states-back s r h = record { state = parser-back s r h.0 h.1.0 h.1.1; reads = parser-reads s r h }
 
 pub answer-rows : AnswerRows
 answer-rows = rows_tell values_of values-injective

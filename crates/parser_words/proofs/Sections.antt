@@ -17,7 +17,7 @@ use Rattle.parser_rules.specs.declared.ruling.Awaited.{Awaited}
 use Rattle.parser_rules.specs.declared.ruling.Awaited.TheVariants as awaited
 use Rattle.parser_rules.specs.declared.ruling.Kept.{Kept}
 use Rattle.parser_rules.specs.declared.ruling.Kept.TheVariants as kept
-use Rattle.parser.specs.declared.state.Section.{Section}
+use Rattle.parser_rules.specs.declared.ruling.Section.{Section}
 use Rattle.parser.specs.declared.state.State.{State}
 use Rattle.parser.specs.contracts.state.State.{the_type}
 use Rattle.tokenizer_words.specs.Words.{pasted, words_of}

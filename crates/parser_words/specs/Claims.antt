@@ -1,13 +1,12 @@
 -- Claims about the parser's words and rows: what is written is read back, distinct answers have distinct rows, and the
 -- words stand in this order, without which two halves that are wrong alike would do. proofs/Claimed and Slotted prove
 -- them.
+use Rattle.tokenizer.specs.Token.{Answer, token_values, values_of}
 use Rattle.std.specs.Prelude.{ℕ, ◌≡◌, List, ◌∷◌, ◌++◌, map, Bool, true, false, length, replicate}
 use Rattle.text.specs.Bytes.{part}
 use Rattle.tokenizer.specs.Step.{fresh as fresh_tokenizer}
 use Rattle.tokenizer.specs.declared.token.Token.TheVariants.{MultilineValue}
 use Rattle.tokenizer.specs.declared.state.State.{State as Tokenizer}
-use Rattle.parser_rules.specs.Ruling.{values_of}
-use Rattle.parser_rules.specs.declared.ruling.Answer.{Answer}
 use Rattle.parser_rules.specs.declared.ruling.Sort.TheVariants.{Map, List as Listed}
 use Rattle.parser_rules.specs.declared.ruling.Awaited.{Awaited}
 use Rattle.parser_rules.specs.declared.ruling.Awaited.TheVariants as awaited
@@ -17,13 +16,18 @@ use Rattle.parser.specs.Step.{max_sections, no_sort, step_of, fresh}
 use Rattle.parser.specs.declared.state.State.{State}
 use Rattle.tokenizer_rows.specs.Rows.{row_of, rows_of}
 use Rattle.tokenizer_words.specs.Words.{words_of}
-use Rattle.tokenizer_words.specs.Claims.{standing}
-use Rattle.tokenizer_words.specs.Claims.{Slots as TokenizerSlots}
+use Rattle.tokenizer_words.specs.Claims.{standing, Slots as TokenizerSlots}
 use Rattle.parser_words.specs.ParserWords.{parser_words, parser_in, parser_readable}
 
--- a state has its record of sections, and T holds of its tokenizer's state
+-- what is kept is the tokenizer's: an Outdent that carries no line
+abbrev pub KeepsNone : Kept → Type 0
+KeepsNone kept.Nothing = Unit {0}
+KeepsNone kept.End = Unit {0}
+KeepsNone (kept.Token t) = (token_values t).opened ≡ 0
+
+-- a state has its record of sections, keeps what is the tokenizer's, and T holds of its tokenizer's state
 abbrev pub Having : (Tokenizer → Type 0) → State → Type 0
-Having T s = T s.tokenizer × (length s.sections ≡ max_sections)
+Having T s = T s.tokenizer × ((length s.sections ≡ max_sections) × KeepsNone s.kept)
 
 -- it has all its slots: the code's arrays have no other length
 abbrev pub Slots : State → Type 0

@@ -3,7 +3,7 @@
 -- its line; a row for what is kept (number 0 for nothing, 11 for End); the number of open sections, and of each of the
 -- 65 its sort (0 unset, 1 map, 2 list) and the line of the key or item that opened it. 278 words. proofs/Back shows
 -- that the state is read back from them.
-use Rattle.std.specs.Prelude.{ℕ, zero, suc, ◌+◌, ◌*◌, List, [], ◌∷◌, ◌++◌, Bool, true, cond, ◌&&◌, eqb, leb, length, get_or, drop}
+use Rattle.std.specs.Prelude.{ℕ, zero, suc, ◌+◌, ◌*◌, List, [], ◌∷◌, ◌++◌, Bool, true, cond, ◌&&◌, eqb, leb, length, get_or, drop, take}
 use Rattle.tokenizer.specs.Token.{bare, token_values}
 use Rattle.parser.specs.Step.{max_sections, fresh}
 use Rattle.parser_rules.specs.declared.ruling.Sort.{Sort}
@@ -12,7 +12,7 @@ use Rattle.parser_rules.specs.declared.ruling.Awaited.{Awaited}
 use Rattle.parser_rules.specs.declared.ruling.Awaited.TheVariants as awaited
 use Rattle.parser_rules.specs.declared.ruling.Kept.{Kept}
 use Rattle.parser_rules.specs.declared.ruling.Kept.TheVariants as kept
-use Rattle.parser.specs.declared.state.Section.{Section}
+use Rattle.parser_rules.specs.declared.ruling.Section.{Section}
 use Rattle.parser.specs.declared.state.State.{State}
 use Rattle.tokenizer_rows.specs.Rows.{row_of, token_in}
 use Rattle.tokenizer_words.specs.Words.{tokenizer_size, flag, words_of, state_in, readable}
@@ -57,17 +57,17 @@ sections_in zero w = []
 sections_in (suc n) w = record { sort = sort_in (get_or w 0 0); line = get_or w 1 0 } ∷ sections_in n (drop 2 w)
 
 unfoldable pub awaited_in : ℕ → ℕ → Awaited
-awaited_in n l = get_or (awaited.Nothing ∷ awaited.Value l ∷ awaited.Multiline l ∷ []) n awaited.Nothing
+awaited_in n l = cond (eqb n 1) (awaited.Value l) (cond (eqb n 2) (awaited.Multiline l) awaited.Nothing)
 
 -- what a row says is kept
 unfoldable pub kept_in : List ℕ → Kept
 kept_in w = cond (eqb (get_or w 0 0) 0) kept.Nothing (cond (eqb (get_or w 0 0) 11) kept.End (kept.Token (token_in w)))
 
--- the state in words
+-- the state in words; what is kept is the tokenizer's, whose row needs its first six
 unfoldable pub parser_in : List ℕ → State
 parser_in w = record {
   tokenizer = state_in w;
-  kept = kept_in (drop 140 w);
+  kept = kept_in (take 6 (drop 140 w));
   awaited = awaited_in (get_or w 138 0) (get_or w 139 0);
   refused = eqb (get_or w 137 0) 1;
   sections = sections_in max_sections (drop 148 w);

@@ -28,12 +28,10 @@ fn are_sorts(w: &[usize]) -> bool
     requires { parser_size ≤ length w.now }
     ensures { result ≡ are_sorts max_sections (drop 148 w.now) }
 {
-    let mut k = 0;
-    while k < 65 {
+    for k in 0..65 {
         if 2 < w[148 + 2 * k] {
             return false;
         }
-        k += 1;
     }
     true
 }
@@ -50,6 +48,7 @@ pub fn is_parser(w: &[usize]) -> bool
     front & ((w[137] <= 1) & ((w[138] <= 2) & ((w[140] <= 11) & sorts)))
 }
 
+#[tactic(auto, unfolding(crate::specs::ParserWords::awaited_in))]
 fn awaited_in(n: usize, line: usize) -> Awaited
     ensures { result ≡ awaited_in n line }
 {
@@ -60,6 +59,7 @@ fn awaited_in(n: usize, line: usize) -> Awaited
     }
 }
 
+#[tactic(auto, unfolding(crate::specs::ParserWords::kept_in))]
 fn kept_in(w: &[usize]) -> Kept
     ensures { result ≡ kept_in w.now }
 {
@@ -74,6 +74,7 @@ fn kept_in(w: &[usize]) -> Kept
 }
 
 // A sort's word.
+#[tactic(auto, unfolding(crate::specs::ParserWords::sort_word))]
 pub fn sort_word(s: Sort) -> usize
     ensures { result ≡ sort_word s }
 {
@@ -84,6 +85,7 @@ pub fn sort_word(s: Sort) -> usize
     }
 }
 
+#[tactic(auto, unfolding(crate::specs::ParserWords::awaited_words))]
 fn awaited_words(a: Awaited) -> [usize; 2]
     ensures { result ≡ awaited_words a }
 {
@@ -94,6 +96,7 @@ fn awaited_words(a: Awaited) -> [usize; 2]
     }
 }
 
+#[tactic(auto, unfolding(crate::specs::ParserWords::kept_words))]
 fn kept_words(k: Kept) -> [usize; 7]
     ensures { result ≡ kept_words k }
 {
@@ -138,13 +141,9 @@ fn put_sections(sections: [Section; 65], w: &mut [usize])
     requires { parser_size ≤ length w.old }
     ensures { w.new ≡ pasted (section_words sections) 148 w.old }
 {
-    let mut k = 0;
-    while k < 65 {
-        let s = sections[k];
-        let sort = s.sort;
-        w[148 + 2 * k] = sort_word(sort);
+    for (k, s) in sections.iter().enumerate() {
+        w[148 + 2 * k] = sort_word(s.sort);
         w[149 + 2 * k] = s.line;
-        k += 1;
     }
 }
 
@@ -170,7 +169,7 @@ fn middle_in(w: &[usize]) -> [usize; 11]
     requires { parser_size ≤ length w.now }
     ensures { result ≡ middle_words (parser_in w.now) }
 {
-    let kept = kept_in(&w[140..]);
+    let kept = kept_in(&w[140..146]);
     let awaited = awaited_in(w[138], w[139]);
     middle_by(w[137] == 1, awaited, kept, w[147])
 }

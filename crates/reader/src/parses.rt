@@ -1,6 +1,6 @@
 // The parser's step over a state that the caller lends.
+ghost use Rattle.tokenizer.specs.Token.{values_of};
 ghost use Rattle.std.specs.Prelude.{◌≡◌};
-ghost use Rattle.parser_rules.specs.Ruling.{values_of};
 ghost use Rattle.parser.specs.Step.{step_of};
 
 use parser::{Answer, State};

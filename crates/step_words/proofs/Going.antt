@@ -1,4 +1,7 @@
 -- One step in place is the parser's step.
+use Rattle.std.specs.Prelude.{Some, None, Ok, Err}
+use Rattle.tokenizer.specs.Token.{Answer as Came, Answer, token_values, values_of}
+use Rattle.text.specs.Numbers.{number_of}
 use Prim.Native.Nat.{ℕ, ◌+◌, ◌≤◌}
 use mathlib.Core.Path.{◌≡◌, refl, sym, ap, subst, ◌∙◌}
 use mathlib.Core.List.{List, ◌++◌}
@@ -8,16 +11,11 @@ use lib.Dec.{eqb}
 use lib.ListN.{length, drop, get_or}
 use borrow.Author.Tests.{eq-eqb, ne_eqb, eqb-true}
 use Rattle.text.proofs.Cases.{by_bool, clash}
-use Rattle.tokenizer.specs.Token.{token_values}
-use Rattle.tokenizer.specs.Token.{values_of as came_values}
 use Rattle.tokenizer.specs.Step.{fit}
 use Rattle.tokenizer.specs.Front.{said_by}
-use Rattle.tokenizer.specs.declared.state.Answer.{Answer as Came}
 use Rattle.tokenizer.specs.declared.state.State.{State as Tokenizer}
-use Rattle.parser_rules.specs.Ruling.{values_of, ruling_of}
+use Rattle.parser_rules.specs.Ruling.{ruling_of}
 use Rattle.parser_rules.specs.Judging.{sort_number, opened_line, awaited_number, awaited_line, judged_by}
-use Rattle.parser_rules.specs.declared.ruling.Answer.{Answer}
-use Rattle.parser_rules.specs.declared.ruling.Answer.TheVariants as answer
 use Rattle.parser_rules.specs.declared.ruling.Ruling.{Ruling}
 use Rattle.parser_rules.specs.declared.ruling.Ruling.TheVariants.{Says, End, Unfit}
 use Rattle.parser.specs.Step.{innermost_of, full_of, on_ruling, step_with, came_of, step_kept, step_of}
@@ -35,7 +33,7 @@ use Rattle.step_words.specs.Stepping.{came_in, sort_at, opened_at, judged_in, ou
 use Rattle.step_words.specs.declared.step.Layer.TheVariants.{Parser}
 use Rattle.step_words.specs.declared.outcome.Outcome.{Outcome}
 use Rattle.parser_words.proofs.Sections.{sections-length}
-use Rattle.parser_words.proofs.Back.{all_words, behind-137, number_at, line_at, kept_at, sections-at}
+use Rattle.parser_words.proofs.Back.{all_words, behind-137, number_at, line_at, kept_at, sections-at, reads-none}
 use Rattle.step_words.proofs.Agreeing.{Leaves, agrees}
 use Rattle.step_words.proofs.Putting.{moved, put_is}
 use Rattle.step_words.proofs.Coming.{sort-is, opened-is, Comes, comes}
@@ -43,11 +41,12 @@ use Rattle.step_words.proofs.Coming.{sort-is, opened-is, Comes, comes}
 -- the answers that stop, by their numbers
 pub stop_is : (a : Answer) → stops_at (values_of a).number ≡ is_stop a
 unfolding values_of is_stop stops_at
-stop_is answer.End = refl
-stop_is (answer.Token t o) =
+stop_is None = refl
+stop_is (Some (Ok t)) =
     let k = kinds t in
     rw (ne_eqb (token_values t).number 0 (λ e. omega (arith, k.0)), ne_eqb (token_values t).number 271 (λ e. omega (arith, k.1)))
-stop_is (answer.Refused n l) =
+stop_is (Some (Err e)) =
+    let n = number_of e.refusal in
     rw (ne_eqb (256 + n) 0 (λ e. omega arith))
     (by_bool (eqb n 15)
     (λ e. let k : n ≡ 15 = eqb-true n 15 e in rw k)
@@ -90,13 +89,13 @@ module _ (d w : List ℕ) (l : length d ≤ 16777216) (h : 278 ≤ length w) (e 
     (f : fit (length d) (state_in w) ≡ true) where
   came : Comes d w l (omega arith) f (parser_in w).kept
   unfolding parser_in
-  came = comes d w l (omega arith) f _ (parser_in w).kept (ap (drop 140) e ∙ kept_at (parser_in w) (drop 278 w) (slots-in w))
+  came = comes d w l (omega arith) f _ (parser_in w).kept (reads-none w) (ap (drop 140) e ∙ kept_at (parser_in w) (drop 278 w) (slots-in w))
 
   leaves : Leaves (outcome_for Parser (came_in Parser d w).said w) (ruled_for d w)
   unfolding parser_in judged_in
   leaves =
       let s = parser_in w in
-      let p : (came_in Parser d w).said ≡ said_by (came_values (came_for d w)) = came.said in
+      let p : (came_in Parser d w).said ≡ said_by (values_of (came_for d w)) = came.said in
       let na : get_or w 138 0 ≡ awaited_number s.awaited = ap (λ x. get_or x 138 0) e ∙ number_at s (drop 278 w) (slots-in w) in
       let la : get_or w 139 0 ≡ awaited_line s.awaited = ap (λ x. get_or x 139 0) e ∙ line_at s (drop 278 w) (slots-in w) in
       let sections = ap (drop 148) e ∙ sections-at s (drop 278 w) (slots-in w) in

@@ -27,7 +27,7 @@ use Rattle.parser_rules.specs.declared.judging.Judged.TheVariants.{
   Unfit,
 }
 use Rattle.parser.specs.Step.{ChangeFits}
-use Rattle.step_words.specs.Outcomes.{Few, outcome_by}
+use Rattle.step_words.specs.Outcomes.{outcome_by}
 use Rattle.step_words.specs.Stepping.{innermost_at, sort_at, judged_in}
 use Rattle.step_words.specs.declared.step.Layer.{Layer}
 use Rattle.step_words.specs.declared.step.Layer.TheVariants.{Tokenizer, Parser}
@@ -43,7 +43,7 @@ Sound n Listed = (0 < n) × (n ≤ 65)
 Sound n Hint = Unit {0}
 Sound n Value = Unit {0}
 Sound n Passes = Unit {0}
-Sound n (Refuses k) = k ≤ 7
+Sound n (Refuses r) = Unit {0}
 Sound n RefusesEntry = Unit {0}
 Sound n End = Unit {0}
 Sound n Unfit = Unit {0}
@@ -60,12 +60,12 @@ module _ (n : ℕ) (w : List ℕ) where
   unfolding settled_by outdent_by item_by key_by
   at_rest k =
       on-cond (Sound n) (eqb k 0) (λ _. tt) (λ _. on-cond (Sound n) (eqb k 1) (λ _. tt) (λ _. on-cond (Sound n) (eqb k 2) (λ _. tt)
-      (λ _. on-cond (Sound n) (eqb k 3) (λ _. omega arith)
+      (λ _. on-cond (Sound n) (eqb k 3) (λ _. tt)
       (λ _. on-cond (Sound n) (eqb k 4) (λ _. on-cond (Sound n) (eqb (sort_at n w) 3) (λ _. tt) (λ e. (has-sort n w e).0))
       (λ _. on-cond (Sound n) (eqb k 5)
-      (λ _. on-cond (Sound n) (eqb (sort_at n w) 1) (λ _. omega arith) (λ _. on-cond (Sound n) (eqb (sort_at n w) 3) (λ _. tt) (λ e. has-sort n w e)))
+      (λ _. on-cond (Sound n) (eqb (sort_at n w) 1) (λ _. tt) (λ _. on-cond (Sound n) (eqb (sort_at n w) 3) (λ _. tt) (λ e. has-sort n w e)))
       (λ _. on-cond (Sound n) (eqb k 6)
-      (λ _. on-cond (Sound n) (eqb (sort_at n w) 2) (λ _. omega arith) (λ _. on-cond (Sound n) (eqb (sort_at n w) 3) (λ _. tt) (λ e. has-sort n w e)))
+      (λ _. on-cond (Sound n) (eqb (sort_at n w) 2) (λ _. tt) (λ _. on-cond (Sound n) (eqb (sort_at n w) 3) (λ _. tt) (λ e. has-sort n w e)))
       (λ _. tt)))))))
 
   after-key : (k : ℕ) → Sound n (after_entry_by k (leb 65 n))
@@ -88,21 +88,6 @@ sound Parser k w =
     on-cond (Sound n) (leb 256 k) (λ _. tt)
     (λ _. on-cond (Sound n) (eqb (get_or w 138 0) 1) (λ _. after-key n w k)
     (λ _. on-cond (Sound n) (eqb (get_or w 138 0) 2) (λ _. after-hint n w k) (λ _. at_rest n w k)))
-
-pub few : (n : ℕ) (v : Judged) → Sound n v → Few v
-few n GivesOn h = tt
-few n NoValue h = tt
-few n Opens h = tt
-few n Closes h = tt
-few n Map h = tt
-few n Listed h = tt
-few n Hint h = tt
-few n Value h = tt
-few n Passes h = tt
-few n (Refuses k) h = h
-few n RefusesEntry h = tt
-few n End h = tt
-few n Unfit h = tt
 
 -- what it leaves fits the record
 pub change-fits : (n : ℕ) (v : Judged) (s : Said) (a l o : ℕ) → Sound n v → ChangeFits (outcome_by v s a l o).change n

@@ -1,4 +1,7 @@
 -- THE LAW. Of the words of a fit state, the step in words is the tokenizer's step, or the parser's.
+use Rattle.text.specs.Numbers.{number_of}
+use Rattle.std.specs.Prelude.{Some, None, Ok, Err}
+use Rattle.tokenizer.specs.Token.{Answer as Came, bare, values_of}
 use Prim.Native.Nat.{ℕ, ◌≤◌}
 use mathlib.Core.Path.{◌≡◌, refl, sym, ap, subst, ◌∙◌}
 use mathlib.Core.List.{List, [], ◌++◌, append-nil}
@@ -9,26 +12,20 @@ use lib.ListN.{length, drop}
 use lib.Seq.{drop-length}
 use borrow.Author.Tests.{ne_eqb, le-leb}
 use Rattle.text.proofs.Cases.{by_bool, clash}
-use Rattle.tokenizer.specs.Token.{bare}
-use Rattle.tokenizer.specs.Token.{values_of as came_values}
-use Rattle.tokenizer.specs.Step.{fit}
-use Rattle.tokenizer.specs.Step.{step_of as token_step}
+use Rattle.tokenizer.specs.Step.{fit, step_of as token_step}
 use Rattle.tokenizer.specs.Front.{said_by, ahead_of}
 use Rattle.tokenizer.specs.Lists.{is_end}
 use Rattle.tokenizer.specs.declared.front.Said.{Said}
 use Rattle.tokenizer.specs.declared.front.Advanced.{Advanced}
-use Rattle.tokenizer.specs.declared.state.Answer.{Answer as Came}
-use Rattle.tokenizer.specs.declared.state.Answer.TheVariants as came
 use Rattle.tokenizer.specs.declared.state.State.{State as Tokenizer}
 use Rattle.tokenizer.proofs.Advancing.{step-said, step-number}
-use Rattle.parser_rules.specs.Ruling.{values_of, ruling_of}
+use Rattle.parser_rules.specs.Ruling.{ruling_of}
 use Rattle.parser_rules.specs.declared.ruling.Kept.{Kept}
 use Rattle.parser_rules.specs.declared.ruling.Kept.TheVariants as kept
 use Rattle.parser_rules.specs.declared.ruling.Ruling.{Ruling}
 use Rattle.parser_rules.specs.declared.ruling.Ruling.TheVariants.{Says, End, Unfit}
 use Rattle.parser.specs.Step.{innermost_of, full_of, on_ruling, step_with, came_of, step_kept, step_of, fresh}
 use Rattle.parser.specs.declared.state.State.{State}
-use Rattle.parser.specs.declared.state.Step.{Step}
 use Rattle.parser.proofs.Steps.{ended, goes_on}
 use Rattle.tokenizer_words.specs.Words.{state_in}
 use Rattle.parser_words.specs.ParserWords.{parser_words, parser_in, fresh_parser_in}
@@ -44,6 +41,7 @@ use Rattle.step_words.proofs.Rulings.{GoesOn, Fair, ruling-goes-on}
 use Rattle.step_words.proofs.Going.{stop_is, answer-is, words_are}
 use Rattle.step_words.proofs.Branches.{refused, goes, stopped, went_on}
 use Rattle.step_words.proofs.Whole.{fresh-whole, stood-state, stood-tokenizer, stood-rest, stood-words, stood-length}
+use Rattle.tokenizer.specs.declared.state.Step.{Step}
 
 -- the tokenizer's, by the number that came
 module _ (m : Advanced) (w : List ℕ) where
@@ -61,7 +59,7 @@ unfolding step_in refused_in came_in kept_number
 tokenizer-steps d w l h f =
     let t = token_step d (state_in w) in
     let m = ahead_of d (state_in w) in
-    let s : m.said ≡ said_by (came_values t.answer) = step-said d (state_in w) l f in
+    let s : m.said ≡ said_by (values_of t.answer) = step-said d (state_in w) l f in
     let n : eqb m.said.number 0 ≡ is_end t.answer = ap (λ (x : Said). eqb x.number 0) s ∙ end-number t.answer in
     let k : m.said.number ≤ 259 = rw s (step-number d (state_in w) l f) in
     by_bool (is_end t.answer)
@@ -71,7 +69,7 @@ tokenizer-steps d w l h f =
 -- the parser's
 module _ (d w : List ℕ) (l : length d ≤ 16777216) (h : 278 ≤ length w) (e : w ≡ parser_words (parser_in w) ++ drop 278 w)
     (f : fit (length d) (state_in w) ≡ true) where
-  abbrev t : Step
+  abbrev t : Step State
   t = step_of d (parser_in w)
 
   abbrev o : Outcome
@@ -104,20 +102,20 @@ module _ (d w : List ℕ) (l : length d ≤ 16777216) (h : 278 ≤ length w) (e 
 pub parser-steps : ParserSteps
 parser-steps d s r l p =
     let w = parser_words s ++ r in
-    let e = stood-words s p.slots p.sections r w refl in
-    let f : fit (length d) (state_in w) ≡ true = rw (stood-tokenizer s p.slots p.sections r w refl) p.fits in
-    let q = parser-step d w l (omega (arith, stood-length s p.slots p.sections r w refl)) e f in
-    rw (stood-state s p.slots p.sections r w refl, stood-rest s p.slots p.sections r w refl) at q
+    let e = stood-words s p.slots p.sections p.keeps r w refl in
+    let f : fit (length d) (state_in w) ≡ true = rw (stood-tokenizer s p.slots p.sections p.keeps r w refl) p.fits in
+    let q = parser-step d w l (omega (arith, stood-length s p.slots p.sections p.keeps r w refl)) e f in
+    rw (stood-state s p.slots p.sections p.keeps r w refl, stood-rest s p.slots p.sections p.keeps r w refl) at q
 
 -- a stop is of no line, and the state stays
-abbrev Stopped : State → Step → Type 0
+abbrev Stopped : State → Step State → Type 0
 Stopped s x = (said_by (values_of x.answer) ≡ said_by (bare (values_of x.answer).number 0)) × (x.state ≡ s)
 
-fair : (c : Came) → (came_values c).number ≤ 259 → Fair c
-unfolding came_values
-fair came.End h = tt
-fair (came.Token t) h = tt
-fair (came.Refused n l) h = ne_eqb n 15 (λ e. omega arith)
+fair : (c : Came) → (values_of c).number ≤ 259 → Fair c
+unfolding values_of
+fair None h = tt
+fair (Some (Ok t)) h = tt
+fair (Some (Err x)) h = ne_eqb (number_of x.refusal) 15 (λ e. omega arith)
 
 module _ (d : List ℕ) (s : State) where
   ruled-stops : (r : Ruling) (t : Tokenizer) → GoesOn r → is_stop (on_ruling r s t).answer ≡ true → Stopped s (on_ruling r s t)
@@ -149,7 +147,7 @@ module _ (d : List ℕ) (s : State) where
 -- the words of a state are those of a reading
 pub reads : (d : List ℕ) (s : State) (w : List ℕ) → w ≡ parser_words s → Whole d s → (parser_in w ≡ s) × Reading d w
 reads d s w e h =
-    let b = stood-state s h.slots h.sections [] w (e ∙ sym (append-nil (parser_words s))) in
+    let b = stood-state s h.slots h.sections h.keeps [] w (e ∙ sym (append-nil (parser_words s))) in
     (b, record { words = rw b e; whole = rw b h })
 
 pub fresh-reads : FreshReads

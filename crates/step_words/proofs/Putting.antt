@@ -12,7 +12,7 @@ use Rattle.parser_rules.specs.declared.ruling.Change.{Change}
 use Rattle.parser_rules.specs.declared.ruling.Change.TheVariants.{Keep, Fix, Open, Close}
 use Rattle.parser_rules.specs.declared.ruling.Verdict.{Verdict}
 use Rattle.parser.specs.Step.{no_sort, unsorted, ChangeFits, sections_after, count_after, after_verdict}
-use Rattle.parser.specs.declared.state.Section.{Section}
+use Rattle.parser_rules.specs.declared.ruling.Section.{Section}
 use Rattle.parser.specs.declared.state.State.{State}
 use Rattle.tokenizer_rows.specs.Rows.{row_by}
 use Rattle.tokenizer_words.specs.Words.{pasted_in, flag, words_of}

@@ -1,12 +1,11 @@
 -- Claims: what the step in words is, of the words of a fit state: the tokenizer's step, or the parser's. proofs/Laws proves them.
+use Rattle.parser_words.specs.Claims.{KeepsNone}
 use Rattle.std.specs.Prelude.{ℕ, ◌≤◌, ◌≡◌, List, ◌++◌, true, cond, length, drop}
 use Rattle.text.specs.Numbers.{max_document}
-use Rattle.tokenizer.specs.Token.{values_of as came_values}
-use Rattle.tokenizer.specs.Step.{fit}
-use Rattle.tokenizer.specs.Step.{step_of as token_step}
+use Rattle.tokenizer.specs.Token.{values_of}
+use Rattle.tokenizer.specs.Step.{fit, step_of as token_step}
 use Rattle.tokenizer.specs.Front.{said_by}
 use Rattle.tokenizer.specs.Lists.{is_end}
-use Rattle.parser_rules.specs.Ruling.{values_of}
 use Rattle.parser.specs.Step.{step_of, fresh}
 use Rattle.parser.specs.declared.state.State.{State}
 use Rattle.tokenizer_words.specs.Words.{tokenizer_size, words_of, state_in}
@@ -15,10 +14,12 @@ use Rattle.parser_words.specs.Stops.{is_stop}
 use Rattle.step_words.specs.Stepping.{stays, step_in}
 use Rattle.step_words.specs.declared.step.Layer.TheVariants.{Tokenizer, Parser}
 
--- a state with its 64 slots and 65 sections (the code's arrays have no other lengths) that is fit for the document
+-- a state with its 64 slots and 65 sections (the code's arrays have no other lengths) that keeps what is the tokenizer's and is fit
+-- for the document
 pub record Whole (d : List ℕ) (s : State) : Type 0 where
   pub slots : length s.tokenizer.indents ≡ 64
   pub sections : length s.sections ≡ 65
+  pub keeps : KeepsNone s.kept
   pub fits : fit (length d) s.tokenizer ≡ true
 
 -- the words of a reading of d: those of such a state
@@ -35,7 +36,7 @@ abbrev pub TokenizerSteps : Type 0
 TokenizerSteps =
     (d w : List ℕ) → length d ≤ max_document → tokenizer_size ≤ length w → fit (length d) (state_in w) ≡ true → let t = token_step d (state_in w) in
     step_in Tokenizer d w
-    ≡ cond (is_end t.answer) (stays 0 w) (record { said = said_by (came_values t.answer); words = words_of t.state ++ drop tokenizer_size w })
+    ≡ cond (is_end t.answer) (stays 0 w) (record { said = said_by (values_of t.answer); words = words_of t.state ++ drop tokenizer_size w })
 
 -- the parser's: the same of End and 15, r being the words behind
 abbrev pub ParserSteps : Type 0

@@ -1,6 +1,6 @@
 -- Intermediate, tied to the law by proofs/Agreeing and Putting: what a judgement of the parser's leaves, and its words.
-use Rattle.std.specs.Prelude.{ℕ, ◌+◌, ◌*◌, ◌≤◌, List, [], ◌∷◌, ◌++◌, true, false, cond, eqb, set}
-use Rattle.text.specs.Numbers.{missing_multiline, unfit_state}
+use Rattle.std.specs.Prelude.{ℕ, ◌+◌, ◌*◌, List, [], ◌∷◌, ◌++◌, true, false, cond, eqb, set}
+use Rattle.text.specs.Numbers.{missing_multiline, unfit_state, number_of}
 use Rattle.tokenizer.specs.Token.{bare, refusal_number}
 use Rattle.tokenizer.specs.Front.{said_by}
 use Rattle.tokenizer.specs.declared.front.Said.{Said}
@@ -31,22 +31,6 @@ use Rattle.step_words.specs.declared.outcome.Outcome.{Outcome}
 
 abbrev pub nothing : Said
 nothing = said_by (bare 0 0)
-
--- a refusal's number is small
-abbrev pub Few : Judged → Type 0
-Few GivesOn = Unit {0}
-Few NoValue = Unit {0}
-Few Opens = Unit {0}
-Few Closes = Unit {0}
-Few Map = Unit {0}
-Few Listed = Unit {0}
-Few Hint = Unit {0}
-Few Value = Unit {0}
-Few Passes = Unit {0}
-Few (Refuses k) = k ≤ 7
-Few RefusesEntry = Unit {0}
-Few End = Unit {0}
-Few Unfit = Unit {0}
 
 -- what is said, with the line that it carries
 abbrev pub carrying : ℕ → Said → Said
@@ -81,7 +65,7 @@ outcome_by Listed s n l o = given s 1 s.line (Fix sort.List)
 outcome_by Hint s n l o = given s 2 l Keep
 outcome_by Value s n l o = given s 0 0 Keep
 outcome_by Passes s n l o = denied s n l
-outcome_by (Refuses k) s n l o = denied (said_by (bare (refusal_number k) s.line)) 0 0
+outcome_by (Refuses r) s n l o = denied (said_by (bare (refusal_number (number_of r)) s.line)) 0 0
 outcome_by RefusesEntry s n l o = denied (said_by (bare (refusal_number missing_multiline) l)) 0 0
 outcome_by End s n l o = given nothing 0 0 Keep
 outcome_by Unfit s n l o = denied (said_by (bare (refusal_number unfit_state) 0)) 0 0

@@ -4,7 +4,7 @@ ghost use Rattle.tokenizer.specs.Token.{bare};
 ghost use Rattle.tokenizer.specs.Front.{said_by};
 ghost use Rattle.parser.specs.Step.{ChangeFits, count_after};
 ghost use Rattle.step_words.specs.Stepping.{innermost_at, opened_at};
-ghost use Rattle.step_words.specs.Outcomes.{Few, carrying, given, denied, kept_by, outcome_by, section_put, outcome_in};
+ghost use Rattle.step_words.specs.Outcomes.{carrying, given, denied, kept_by, outcome_by, section_put, outcome_in};
 
 use parser_rules::{Change, Judged, Sort};
 use parser_words::sort_word;
@@ -103,8 +103,8 @@ pub(crate) fn innermost_at(k: usize, none: usize, count: usize, w: &[usize; 278]
 
 // What a judgement leaves, s having come to the words' state. The innermost section's line is read only where it
 // closes.
+#[tactic(auto, unfolding(crate::specs::Outcomes::outcome_by))]
 pub(crate) fn outcome_of(v: Judged, s: Said, w: &[usize; 278]) -> Outcome
-    requires { Few v }
     ensures { result ≡ outcome_by v s (get_or w.now 138 0) (get_or w.now 139 0) (opened_at (get_or w.now 147 0) w.now) }
 {
     let awaited = w[138];
@@ -126,7 +126,7 @@ pub(crate) fn outcome_of(v: Judged, s: Said, w: &[usize; 278]) -> Outcome
         Judged::Hint => gives(s, 2, line, Change::Keep),
         Judged::Value => gives(s, 0, 0, Change::Keep),
         Judged::Passes => denies(s, awaited, line),
-        Judged::Refuses(n) => denies(say(256 + n, s.line), 0, 0),
+        Judged::Refuses(r) => denies(say(256 + usize::from(r), s.line), 0, 0),
         Judged::RefusesEntry => denies(say(260, line), 0, 0),
         Judged::End => gives(say(0, 0), 0, 0, Change::Keep),
         Judged::Unfit => denies(say(271, 0), 0, 0),

@@ -1,13 +1,15 @@
--- Laws of `kept_end` at a position of a text: what a loop that counts down needs of it.
-use Prim.Native.Nat.{ℕ, zero, suc, ◌-◌, ◌≤◌, ◌<◌}
+-- `kept_end` by the bytes that are dropped at the end.
+use Prim.Native.Nat.{ℕ, suc, ◌-◌}
 use mathlib.Core.Path.{◌≡◌, refl, ap, ◌∙◌}
-use mathlib.Core.List.{List, [], ◌∷◌, ◌++◌}
+use mathlib.Core.List.{List, [], ◌∷◌, ◌++◌, reverse}
 use mathlib.Core.Bool.{Bool, true, false, cond}
-use native.Mathlib.Numerals.{sub-one}
 use native.Mathlib.Omega.{arith}
-use lib.ListN.{length, get_or, take}
-use lib.Seq.{take-suc, take-length, length-take-le}
+use lib.ListN.{length}
+use Rattle.std.specs.List.{prefix_len, suffix_len}
+use Rattle.std.proofs.lemmas.List.{reverse-reverse, length-reverse}
+use Rattle.std.proofs.lemmas.Grind.{reverse_onto}
 use Rattle.text.specs.Trimming.{kept_end, keep_more}
+use Rattle.text.proofs.Cases.{by_bool}
 
 keep-nil : (t : Bool) → keep_more t 0 ≡ cond t 0 1
 keep-nil true = refl
@@ -23,21 +25,13 @@ unfolding kept_end
 snoc p [] b = keep-nil (p b)
 snoc p (a ∷ s) b = ap (keep_more (p a)) (snoc p s b) ∙ keep-cond (p a) (p b) (kept_end p s) (length s)
 
-module _ (p : ℕ → Bool) (s : List ℕ) where
-  pub whole : kept_end p s ≡ kept_end p (take (length s) s)
-  whole = rw take-length
+-- what is kept is all but the dropped bytes at the end
+kept-reverse : (p : ℕ → Bool) (r : List ℕ) → kept_end p (reverse r) ≡ length r - prefix_len p r
+unfolding kept_end
+kept-reverse p [] = refl
+kept-reverse p (b ∷ r) =
+    rw (reverse_onto r b [], snoc p (reverse r) b, length-reverse)
+    (by_bool (p b) (λ e. rw e (kept-reverse p r ∙ omega arith)) (λ e. rw e (omega arith)))
 
-  -- the byte before e is dropped
-  pub less : (e : ℕ) → 0 < e → e ≤ length s → p (get_or s (e - 1) 0) ≡ true → kept_end p (take e s) ≡ kept_end p (take (e - 1) s)
-  less zero h k t = absurd (omega arith)
-  less (suc e) h k t = rw (sub-one, take-suc s e 0 k, snoc, rw sub-one at t)
-
-  -- the byte before e is kept
-  pub stop : (e : ℕ) → 0 < e → e ≤ length s → p (get_or s (e - 1) 0) ≡ false → kept_end p (take e s) ≡ e
-  stop zero h k t = absurd (omega arith)
-  stop (suc e) h k t = rw (take-suc s e 0 k, snoc, rw sub-one at t, length-take-le e s (omega arith))
-
-  pub none : (e : ℕ) → e ≤ 0 → kept_end p (take e s) ≡ e
-  unfolding kept_end
-  none zero h = refl
-  none (suc e) h = absurd (omega arith)
+pub kept : (p : ℕ → Bool) (s : List ℕ) → kept_end p s ≡ length s - suffix_len p s
+kept p s = rw (reverse-reverse, length-reverse) at (kept-reverse p (reverse s))

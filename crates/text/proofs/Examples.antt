@@ -5,7 +5,7 @@ use mathlib.Core.Path.{◌≡◌, refl}
 use mathlib.Core.Bool.{true, false}
 use Rattle.text.specs.Ascii.{ascii}
 use Rattle.text.specs.Numbers.{max_document, max_open}
-use Rattle.text.specs.Bytes.{is_blank, is_break, break_size, count_while, line_end, starts_with, part}
+use Rattle.text.specs.Bytes.{is_blank, is_break, break_size, line_end, starts_with, part}
 use Rattle.text.specs.Trimming.{dropped, kept_end, trimmed}
 use Rattle.text.specs.declared.trimming.Dropped.TheVariants.{Blanks, BlanksAndBreaks}
 
@@ -32,7 +32,7 @@ lf-cr = refl
 
 -- a line ends before its break
 before-break : line_end (ascii "ab\rc") ≡ 2
-unfolding count_while is_break
+unfolding is_break
 before-break = refl
 
 -- a tab does not begin with a space
@@ -42,13 +42,13 @@ tab-space = refl
 
 -- blanks alone are dropped from a line's text, breaks too from a multiline value's; of blanks alone the empty part at the start is left
 blanks-dropped : trimmed (dropped Blanks) (ascii " a b\t\n ") ≡ part 1 6
-unfolding trimmed dropped is_blank is_break count_while kept_end
+unfolding trimmed dropped is_blank is_break kept_end
 blanks-dropped = refl
 
 breaks-dropped : trimmed (dropped BlanksAndBreaks) (ascii " \na b\t\n ") ≡ part 2 5
-unfolding trimmed dropped is_blank is_break count_while kept_end
+unfolding trimmed dropped is_blank is_break kept_end
 breaks-dropped = refl
 
 all-blank : trimmed (dropped Blanks) (ascii " \t ") ≡ part 0 0
-unfolding trimmed dropped is_blank is_break count_while kept_end
+unfolding trimmed dropped is_blank is_break kept_end
 all-blank = refl

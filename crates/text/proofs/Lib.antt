@@ -1,9 +1,9 @@
 pub mod Cases
 pub mod Front
-pub mod Scan
 pub mod Ends
 pub mod Prefix
 pub mod Same
 pub mod Skipped
 pub mod Trimmed
+pub mod Numbered
 pub mod Examples

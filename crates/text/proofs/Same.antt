@@ -1,12 +1,13 @@
 -- Texts compared: one begins with two others one behind the other, and two are the same where one begins with the other and they
 -- are as long as each other.
 use Prim.Native.Nat.{ℕ, ◌≤◌}
-use mathlib.Core.Path.{◌≡◌, refl, sym, ◌∙◌}
+use mathlib.Core.Path.{◌≡◌, refl, sym, ap, ◌∙◌}
 use mathlib.Core.List.{List, [], ◌∷◌, ◌++◌}
-use mathlib.Core.Bool.{true, false, ◌&&◌, and-false, and-true}
+use mathlib.Core.Bool.{true, ◌&&◌}
 use lib.Dec.{eqb, ltb, eqb-suc-suc, eqb-zero-suc}
 use lib.ListN.{length, drop}
-use borrow.Author.Tests.{eqb-true, eq-eqb, ne_eqb, ltb-true, ltb-false}
+use lib.Pointwise.{pointwise}
+use borrow.Author.Tests.{eqb-true, ltb-true, ltb-false}
 use Rattle.text.specs.Bytes.{starts_with, is_same}
 use Rattle.text.proofs.Cases.{by_bool, clash, and_left, and_right}
 use Rattle.text.proofs.Prefix.{short}
@@ -27,11 +28,13 @@ same-starts [] (y ∷ s) = sym (eqb-zero-suc (length s))
 same-starts (x ∷ a) [] = refl
 same-starts (x ∷ a) (y ∷ s) = by_bool (eqb x y) (λ e. rw (e, eqb-suc-suc) (same-starts a s)) (λ e. rw e)
 
-pub same_size : (a s : List ℕ) → length a ≡ length s → is_same a s ≡ starts_with a s
-same_size a s e = same-starts a s ∙ rw (eq-eqb (length a) (length s) e, and-true)
-
-pub other-size : (a s : List ℕ) → (length a ≡ length s → ⊥) → is_same a s ≡ false
-other-size a s e = same-starts a s ∙ rw (ne_eqb (length a) (length s) e, and-false)
+-- std's `==` of two slices
+pub std_same : (a s : List ℕ) → pointwise eqb a s ≡ is_same a s
+unfolding is_same
+std_same [] [] = refl
+std_same [] (y ∷ s) = refl
+std_same (x ∷ a) [] = refl
+std_same (x ∷ a) (y ∷ s) = ap (λ t. eqb x y && t) (std_same a s)
 
 pub same-is : (a s : List ℕ) → is_same a s ≡ true → a ≡ s
 unfolding is_same

@@ -1,10 +1,9 @@
 -- Law: document 01, 'Bytes and UTF-8': blanks, line breaks, the line's end; and texts compared. A text is the list of its
 -- bytes.
-use Rattle.std.specs.Prelude.{ℕ, suc, ◌+◌, List, [], ◌∷◌, Bool, true, false, cond, not, ◌||◌, ◌&&◌, eqb}
+use Rattle.std.specs.Prelude.{ℕ, ◌+◌, List, [], ◌∷◌, Bool, true, false, cond, not, ◌||◌, ◌&&◌, eqb}
+use Rattle.std.specs.List.{prefix_len}
 use Prim.Native.Char.{code as byte}
 use Rattle.text.specs.declared.bytes.Part.{Part}
-use Rattle.text.specs.declared.bytes.First.{First}
-use Rattle.text.specs.declared.bytes.First.TheVariants.{Byte, Nothing}
 
 -- a blank: a space or a tab
 unfoldable pub is_blank : ℕ → Bool
@@ -17,25 +16,15 @@ is_break b = eqb b (byte "\r") || eqb b (byte "\n")
 abbrev pub not_break : ℕ → Bool
 not_break b = not (is_break b)
 
--- the first byte, where there is one
-unfoldable pub first_of : List ℕ → First
-first_of [] = Nothing
-first_of (b ∷ r) = Byte b
-
 -- the size of the line break that the text begins with: CR LF is one of two bytes; 0 where it begins with none
 unfoldable pub break_size : List ℕ → ℕ
 break_size [] = 0
 break_size (b ∷ []) = cond (is_break b) 1 0
 break_size (b ∷ c ∷ r) = cond (is_break b) (cond (eqb b (byte "\r") && eqb c (byte "\n")) 2 1) 0
 
--- how many bytes at the front pass the test
-unfoldable pub count_while : (ℕ → Bool) → List ℕ → ℕ
-count_while p [] = 0
-count_while p (b ∷ r) = let n = suc (count_while p r) in cond (p b) n 0
-
 -- how many bytes stand before the first CR or LF
 abbrev pub line_end : List ℕ → ℕ
-line_end s = count_while not_break s
+line_end s = prefix_len not_break s
 
 -- whether the text begins with the bytes of p
 unfoldable pub starts_with : List ℕ → List ℕ → Bool

@@ -2,3 +2,4 @@ pub mod Ascii
 pub mod Bytes
 pub mod Trimming
 pub mod Numbers
+pub mod Refusals

@@ -1,34 +1,17 @@
-ghost use Rattle.std.specs.Prelude.{◌≡◌};
-ghost use Rattle.text.specs.Bytes.{is_blank, is_break, first_of, break_size, line_end, starts_with, is_same};
+ghost use Rattle.std.specs.Prelude.{◌≡◌, ◌≤◌, length};
+ghost use Rattle.text.specs.Bytes.{is_blank, is_break, break_size, line_end, starts_with, is_same};
 
 use line_scans::line_sixteens;
-use text_scans::same_eights;
 
 // A part of a text: its bytes from start to before end.
-#[derive(Clone, Copy)]
+#[derive(Clone, Copy, Debug, PartialEq, Eq)]
 pub struct Part {
     pub start: usize,
     pub end: usize,
 }
 
-// The first byte of a text, where it has one.
-#[derive(Clone, Copy)]
-pub enum First {
-    Byte(u8),
-    Nothing,
-}
-
-pub fn first_of(s: &[u8]) -> First
-    ensures { result ≡ first_of s.now }
-{
-    if 0 < s.len() {
-        First::Byte(s[0])
-    } else {
-        First::Nothing
-    }
-}
-
 // Whether b is a blank: a space or a tab.
+#[tactic(auto, unfolding(crate::specs::Bytes::is_blank))]
 pub fn is_whitespace(b: u8) -> bool
     ensures { result ≡ is_blank b }
 {
@@ -36,6 +19,7 @@ pub fn is_whitespace(b: u8) -> bool
 }
 
 // Whether b is CR or LF.
+#[tactic(auto, unfolding(crate::specs::Bytes::is_break))]
 pub fn is_newline(b: u8) -> bool
     ensures { result ≡ is_break b }
 {
@@ -43,61 +27,48 @@ pub fn is_newline(b: u8) -> bool
 }
 
 // The size of the line break that s begins with, 2 for CR LF; 0 where it begins with none.
+#[tactic(auto, using(crate::proofs::Front::unbroken, crate::proofs::Front::bare, crate::proofs::Front::broken))]
 pub fn newline_size(s: &[u8]) -> usize
     ensures { result ≡ break_size s.now }
 {
-    let First::Byte(b) = first_of(s) else {
+    let Some(&b) = s.first() else {
         return 0;
     };
     if !is_newline(b) {
         return 0;
     }
-    if b != b'\r' {
-        return 1;
-    }
-    if s.len() < 2 {
-        return 1;
-    }
-    if s[1] == b'\n' { 2 } else { 1 }
+    if s.starts_with(b"\r\n") { 2 } else { 1 }
+}
+
+// What line_end answers, byte by byte.
+fn before_newline(s: &[u8]) -> usize
+    ensures value { result ≡ line_end s.now }
+    ensures within { result ≤ length s.now }
+{
+    s.iter().take_while(|b| !is_newline(**b)).count()
 }
 
 // How many bytes stand before the first CR or LF.
+#[tactic(auto, using(crate::proofs::Skipped::line, crate::proofs::Front::from))]
 pub fn line_end(s: &[u8]) -> usize
     ensures { result ≡ line_end s.now }
 {
-    let mut end = line_sixteens(s);
-    while end < s.len() {
-        if is_newline(s[end]) {
-            return end;
-        }
-        end += 1;
-    }
-    end
+    let whole = line_sixteens(s);
+    whole + before_newline(&s[whole..])
 }
 
 // Whether s begins with the bytes of p.
+#[tactic(auto, using(crate::proofs::Prefix::std_starts))]
 pub fn starts_with(s: &[u8], p: &[u8]) -> bool
     ensures { result ≡ starts_with p.now s.now }
 {
-    if s.len() < p.len() {
-        return false;
-    }
-    let mut i = same_eights(s, p);
-    while i < p.len() {
-        if s[i] != p[i] {
-            return false;
-        }
-        i += 1;
-    }
-    true
+    s.starts_with(p)
 }
 
 // Whether two texts have the same bytes.
+#[tactic(auto, using(crate::proofs::Same::std_same))]
 pub fn is_same(a: &[u8], b: &[u8]) -> bool
     ensures { result ≡ is_same a.now b.now }
 {
-    if a.len() != b.len() {
-        return false;
-    }
-    starts_with(b, a)
+    a == b
 }

@@ -2,9 +2,9 @@
 #![tactic(auto)]
 
 mod bytes;
+mod refusals;
 mod trimming;
 
-pub use bytes::{
-    First, Part, first_of, is_newline, is_same, is_whitespace, line_end, newline_size, starts_with,
-};
+pub use bytes::{Part, is_newline, is_same, is_whitespace, line_end, newline_size, starts_with};
+pub use refusals::{NoRefusal, Refusal, SyntaxError};
 pub use trimming::{Dropped, leading, trim};

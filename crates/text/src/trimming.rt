@@ -1,72 +1,66 @@
-ghost use Rattle.std.specs.Prelude.{◌≡◌, ◌+◌, ◌≤◌, length, drop};
-ghost use Rattle.text.specs.Bytes.{count_while};
-ghost use Rattle.text.specs.Trimming.{dropped, kept_end, trimmed};
+ghost use Rattle.std.specs.Prelude.{◌≡◌, ◌≤◌, length};
+ghost use Rattle.std.specs.List.{prefix_len, suffix_len};
+ghost use Rattle.text.specs.Trimming.{dropped, trimmed};
 
 use crate::bytes::{Part, is_newline, is_whitespace};
 use text_scans::space_eights;
 
 // Which bytes trimming drops.
-#[derive(Clone, Copy)]
+#[derive(Clone, Copy, Debug, PartialEq, Eq)]
 pub enum Dropped {
     Blanks,
     BlanksAndBreaks,
 }
 
-fn drops(which: Dropped, b: u8) -> bool
-    ensures { result ≡ dropped which b }
-{
-    match which {
-        Dropped::Blanks => is_whitespace(b),
-        Dropped::BlanksAndBreaks => is_whitespace(b) || is_newline(b),
-    }
-}
-
-// How many dropped bytes s begins with, of which so many are known.
-fn leading_past(which: Dropped, s: &[u8], known: usize) -> usize
-    requires known_in_bounds { known ≤ length s.now }
-    requires known_dropped { count_while (dropped which) s.now ≡ known + count_while (dropped which) (drop known s.now) }
-    ensures { result ≡ count_while (dropped which) s.now }
-{
-    let mut i = known;
-    while i < s.len() {
-        if !drops(which, s[i]) {
-            return i;
+impl Dropped {
+    #[tactic(auto, unfolding(crate::specs::Trimming::dropped))]
+    fn drops(self, b: u8) -> bool
+        ensures { result ≡ dropped self b }
+    {
+        match self {
+            Dropped::Blanks => is_whitespace(b),
+            Dropped::BlanksAndBreaks => is_whitespace(b) || is_newline(b),
         }
-        i += 1;
     }
-    i
+
+    // How many dropped bytes s begins with, byte by byte.
+    fn before(self, s: &[u8]) -> usize
+        ensures value { result ≡ prefix_len (dropped self) s.now }
+        ensures within { result ≤ length s.now }
+    {
+        s.iter().take_while(|b| self.drops(**b)).count()
+    }
+
+    // How many dropped bytes s ends with.
+    fn after(self, s: &[u8]) -> usize
+        ensures value { result ≡ suffix_len (dropped self) s.now }
+        ensures within { result ≤ length s.now }
+    {
+        s.iter().rev().take_while(|b| self.drops(**b)).count()
+    }
 }
 
 // How many dropped bytes s begins with. Each kind drops spaces, so eights of them may be passed first.
+#[tactic(auto, using(crate::proofs::Skipped::spaces, crate::proofs::Front::from))]
 pub fn leading(which: Dropped, s: &[u8]) -> usize
-    ensures { result ≡ count_while (dropped which) s.now }
+    ensures { result ≡ prefix_len (dropped which) s.now }
 {
-    leading_past(which, s, space_eights(s))
-}
-
-// The length of s without the dropped bytes that it ends with.
-fn kept_end(which: Dropped, s: &[u8]) -> usize
-    ensures { result ≡ kept_end (dropped which) s.now }
-{
-    let mut e = s.len();
-    while 0 < e {
-        if !drops(which, s[e - 1]) {
-            return e;
-        }
-        e -= 1;
-    }
-    e
+    let spaces = space_eights(s);
+    spaces + which.before(&s[spaces..])
 }
 
 // The part of s without the dropped bytes at both ends; where all are dropped, the empty part at the start. Texts seldom begin
 // with eight spaces, so they are read one by one: with the eights, this would be too large to be compiled into the readers.
+#[tactic(auto, unfolding(crate::specs::Trimming::trimmed), using(crate::proofs::Ends::kept))]
 pub fn trim(which: Dropped, s: &[u8]) -> Part
     ensures { result ≡ trimmed (dropped which) s.now }
 {
-    let end = kept_end(which, s);
+    let end = s.len() - which.after(s);
     if end == 0 {
         return Part { start: 0, end: 0 };
     }
-    let start = leading_past(which, s, 0);
-    Part { start, end }
+    Part {
+        start: which.before(s),
+        end,
+    }
 }

@@ -1,6 +1,6 @@
 -- Scans by whole eights: what each loop over eights needs of `passing`, and how what holds from byte to byte reaches
 -- the place where the eights end.
-use Prim.Native.Nat.{ℕ, zero, suc, ◌+◌, ◌-◌, ◌*◌, ◌/◌, ◌≤◌, ◌<◌}
+use Prim.Native.Nat.{ℕ, zero, suc, ◌+◌, ◌*◌, ◌/◌, ◌≤◌, ◌<◌}
 use mathlib.Core.Path.{◌≡◌, refl, sym, ◌∙◌}
 use mathlib.Core.Bool.{Bool, true, false, cond, ◌&&◌, and-eq-true_iff, false≢true}
 use native.Mathlib.Nat.{lt_of_not-le}
@@ -44,58 +44,50 @@ reaches t zero i l h e = absurd (omega arith)
 reaches t (suc n) zero l h e = rw e (omega arith)
 reaches t (suc n) (suc i) l h e = more (t 0) h (λ k. reaches (λ j. t (suc j)) n i (omega arith) k e)
 
--- A loop over eights stands at a multiple of 8, and all before it passes.
-abbrev pub Reached : (ℕ → Bool) → ℕ → ℕ → Type 0
-Reached t n i = (i ≤ passing t n) × (i / 8 * 8 ≡ i)
-
-pub start : (t : ℕ → Bool) (n : ℕ) → Reached t n 0
-start t n = (omega arith, refl)
-
-module _ (t : ℕ → Bool) (n i : ℕ) (h : Reached t n i) where
-  pub within : i ≤ n
-  within = omega (arith, passing-le t n)
-
-  -- after k places, whose tests are a, one more that passes
-  next : (k : ℕ) (a : Bool) → i + k < n → (a ≡ true → i + k ≤ passing t n) → (a && t (i + k)) ≡ true → i + suc k ≤ passing t n
-  next k a l f e =
-      let both = (and-eq-true_iff a (t (i + k))).0 e in
-      let g = reaches t n (i + k) l (f both.0) both.1 in
+-- A loop over eights has passed k of them.
+module _ (t : ℕ → Bool) (n k : ℕ) (h : 8 * k ≤ passing t n) where
+  -- after m places, whose tests are a, one more that passes
+  next : (m : ℕ) (a : Bool) → 8 * k + m < n → (a ≡ true → 8 * k + m ≤ passing t n) → (a && t (8 * k + m)) ≡ true → 8 * k + suc m ≤ passing t n
+  next m a l f e =
+      let both = (and-eq-true_iff a (t (8 * k + m))).0 e in
+      let g = reaches t n (8 * k + m) l (f both.0) both.1 in
       omega arith
 
-  -- eight more pass
-  pub go : 8 ≤ n - i → eight t i ≡ true → Reached t n (i + 8)
+  -- one more passes
+  pub go : 8 * k + 8 ≤ n → eight t (8 * k) ≡ true → 8 * (k + 1) ≤ passing t n
   go l e =
-      let one = next 1 (t i) (omega arith) (λ f. rw add-one (reaches t n i (omega arith) h.0 f)) in
+      let one = next 1 (t (8 * k)) (omega arith) (λ f. rw add-one (reaches t n (8 * k) (omega arith) h f)) in
       let three = next 3 _ (omega arith) (next 2 _ (omega arith) one) in
       let five = next 5 _ (omega arith) (next 4 _ (omega arith) three) in
       let seven = next 7 _ (omega arith) (next 6 _ (omega arith) five) in
-      (seven e, omega arith)
+      omega (arith, seven e)
 
   -- the eights end where fewer than eight pass
-  ends : passing t n < i + 8 → i ≡ eights t n
+  ends : passing t n < 8 * k + 8 → 8 * k ≡ eights t n
   unfolding eights
   ends l = omega arith
 
-  -- one of the next eight fails
-  pub stop : eight t i ≡ false → i ≡ eights t n
+  -- one of the next eight places fails
+  pub stop : eight t (8 * k) ≡ false → 8 * k ≡ eights t n
   stop e = ends (lt_of_not-le (λ l. false≢true (sym e ∙ all l)))
     where
-      all : i + 8 ≤ passing t n → eight t i ≡ true
+      all : 8 * k + 8 ≤ passing t n → eight t (8 * k) ≡ true
       all l =
           rw (
-            passes t n i (omega arith),
-            passes t n (i + 1) (omega arith),
-            passes t n (i + 2) (omega arith),
-            passes t n (i + 3) (omega arith),
-            passes t n (i + 4) (omega arith),
-            passes t n (i + 5) (omega arith),
-            passes t n (i + 6) (omega arith),
-            passes t n (i + 7) (omega arith),
+            passes t n (8 * k) (omega arith),
+            passes t n (8 * k + 1) (omega arith),
+            passes t n (8 * k + 2) (omega arith),
+            passes t n (8 * k + 3) (omega arith),
+            passes t n (8 * k + 4) (omega arith),
+            passes t n (8 * k + 5) (omega arith),
+            passes t n (8 * k + 6) (omega arith),
+            passes t n (8 * k + 7) (omega arith),
           )
 
   -- fewer than eight are left
-  pub end : n - i < 8 → i ≡ eights t n
-  end l = ends (omega (arith, passing-le t n))
+  pub end : n / 8 ≤ k → n / 8 * 8 ≡ eights t n
+  unfolding eights
+  end l = omega (arith, passing-le t n)
 
 -- What holds at the start, and goes over from each place that passes to the next, holds at each place up to the first
 -- that fails, and so at the place r where the eights end.
@@ -104,6 +96,6 @@ module _ (t : ℕ → Bool) (n : ℕ) (G : ℕ → Type 0) (z : G 0) (next : (i 
   upto zero l = z
   upto (suc i) l = rw add-one at (next i (omega (arith, passing-le t n)) (passes t n i (omega arith)) (upto i (omega arith)))
 
-  pub along : (r : ℕ) → r ≡ eights t n → (r ≤ n) × G r
+  pub along : (r : ℕ) → r ≡ eights t n → G r
   unfolding eights
-  along r e = (omega (arith, passing-le t n), upto r (omega arith))
+  along r e = upto r (omega arith)

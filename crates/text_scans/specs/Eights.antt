@@ -1,6 +1,6 @@
 -- Scans by whole eights: intermediate definitions, over a test of places. text/proofs/Skipped ties them to what text
 -- counts and compares byte by byte.
-use Rattle.std.specs.Prelude.{ℕ, zero, suc, ◌+◌, ◌*◌, ◌/◌, List, Bool, cond, ◌&&◌, eqb, ltb, get_or}
+use Rattle.std.specs.Prelude.{ℕ, zero, suc, ◌+◌, ◌*◌, ◌/◌, ◌<◌, ◌≡◌, List, Bool, cond, ◌&&◌, eqb, ltb, get_or}
 
 -- the byte at a place is a space; is below 80, a character by itself; is the byte that p has there
 abbrev pub space_at : List ℕ → ℕ → Bool
@@ -24,3 +24,7 @@ passing t (suc n) = let more = suc (passing (λ i. t (suc i)) n) in cond (t 0) m
 -- the same, in whole eights
 unfoldable pub eights : (ℕ → Bool) → ℕ → ℕ
 eights t n = passing t n / 8 * 8
+
+-- a closure, of which post says what its calls return, computes the test t of each of the first n places
+abbrev pub Computes : (ℕ → Bool → Type 0) → ℕ → (ℕ → Bool) → Type 0
+Computes post n t = (i : ℕ) (r : Bool) → i < n → post i r → r ≡ t i

@@ -2,10 +2,6 @@
 // eight that does not pass whole, and the bytes after the last one, are left for the caller to read one by one.
 #![tactic(auto)]
 
-mod ascii;
-mod same;
-mod spaces;
+mod scans;
 
-pub use ascii::ascii_eights;
-pub use same::same_eights;
-pub use spaces::space_eights;
+pub use scans::{ascii_eights, same_eights, space_eights};

@@ -5,6 +5,7 @@ use mathlib.Core.List.{List, []}
 use mathlib.Core.Bool.{Bool, true, false}
 use Rattle.text.specs.Ascii.{ascii}
 use Rattle.text.specs.Bytes.{is_same}
+use Rattle.text.specs.declared.refusals.Refusal.TheVariants.{InvalidEscape, UnfitToken}
 use Rattle.utf8.specs.Utf8.{owes, utf8}
 use Rattle.tokenizer.specs.Token.{line_of}
 use Rattle.tokenizer.specs.Step.{no_part}
@@ -48,17 +49,17 @@ unfolding rules
 refused-name = refl
 
 -- it is 8, and shows `\q`
-pub refused-text : text_in (ascii "\"\\q\"=1") (key 4) ≡ fails 8 (record { start = 1; end = 3 })
+pub refused-text : text_in (ascii "\"\\q\"=1") (key 4) ≡ fails InvalidEscape (record { start = 1; end = 3 })
 unfolding rules
 refused-text = refl
 
 -- of the value of `x="\q"`, which starts at 2, it shows 3 to 5
-pub shown-part : text_in (ascii "x=\"\\q\"") (Value 1 (record { start = 2; end = 6 })) ≡ fails 8 (record { start = 3; end = 5 })
+pub shown-part : text_in (ascii "x=\"\\q\"") (Value 1 (record { start = 2; end = 6 })) ≡ fails InvalidEscape (record { start = 3; end = 5 })
 unfolding rules
 shown-part = refl
 
 -- a key that lies past the document's end is 13
-pub unfit-text : text_in (ascii "a=1") (key 4) ≡ fails 13 no_part
+pub unfit-text : text_in (ascii "a=1") (key 4) ≡ fails UnfitToken no_part
 unfolding rules
 unfit-text = refl
 

@@ -1,106 +1,61 @@
--- A text compared piece by piece: what was passed is what the wanted bytes begin with, and a piece that differs decides.
-use Prim.Native.Nat.{ℕ, ◌+◌, ◌-◌, ◌≤◌}
-use mathlib.Core.Path.{◌≡◌, refl, sym, ◌∙◌}
-use mathlib.Core.List.{List, [], ◌++◌}
-use mathlib.Core.Bool.{Bool, true, false, ◌&&◌, and-false}
+-- A text compared piece by piece: a piece that differs decides, and after one that is the same the others decide of the bytes
+-- that are left.
+use Prim.Native.Nat.{ℕ, suc, ◌-◌}
 use native.Mathlib.Omega.{arith}
+use mathlib.Core.Path.{◌≡◌, refl, sym, ◌∙◌}
+use mathlib.Core.List.{List, [], ◌∷◌, ◌++◌}
+use mathlib.Core.Bool.{Bool, true, false, ◌&&◌, and-false}
 use lib.Dec.{eqb, ltb}
-use lib.ListN.{length, take, drop, length-append}
+use lib.ListN.{length, take, drop}
+use borrow.Author.Tests.{ne_eqb}
+use Rattle.std.specs.Prelude.{Result, Ok, Err, is_ok}
 use Rattle.text.specs.Bytes.{starts_with, is_same}
+use Rattle.text.specs.declared.bytes.Part.{Part}
+use Rattle.text.specs.declared.refusals.SyntaxError.{SyntaxError}
 use Rattle.text.proofs.Cases.{by_bool, clash}
-use Rattle.text.proofs.Same.{starts-append, starts-le, same-starts}
-use Rattle.utf8.specs.Scalar.{encoding_of}
 use Rattle.utf8.specs.Utf8.{utf8}
 use Rattle.tokenizer.specs.Step.{bytes_of, fit_part}
 use Rattle.tokenizer.specs.declared.token.Token.{Token}
-use Rattle.unescape_pieces.specs.Meaning.{Meaning, part, bytes, code, refused, written, meaning}
-use Rattle.unescape_pieces.specs.Pieces.{meaning_from, next_of, start_of}
-use Rattle.unescape_pieces.specs.declared.pieces.Next.{Next}
-use Rattle.unescape_pieces.specs.declared.pieces.Piece.TheVariants.{Run, Scalar, End, Code, Refused}
+use Rattle.unescape_pieces.specs.Meaning.{Meaning, part, bytes, refused, written, meaning}
+use Rattle.unescape_pieces.specs.Pieces.{meaning_from, start_of}
+use Rattle.unescape_pieces.specs.Cursor.{meaning_of, slice_of, Passes}
+use Rattle.unescape_pieces.specs.declared.cursor.Bytes.{Bytes}
+use Rattle.unescape_pieces.specs.declared.cursor.Cursor.{Cursor}
 use Rattle.unescape_pieces.specs.declared.pieces.Spot.{Spot}
 use Rattle.unescape_pieces.specs.declared.start.Style.{Style}
 use Rattle.unescape_pieces.specs.declared.start.Start.TheVariants.{Plain, Pieces}
-use Rattle.unescape_pieces.proofs.Starts.{part-means, pieces-mean}
-use Rattle.unescape_pieces.proofs.Ends.{Ends}
-use Rattle.unescape_pieces.proofs.Turns.{run-moves, run_length}
-use Rattle.unescape_pieces.proofs.Walked.{Walked, begins, on-run, on-scalar, at-end, at_code, at-refused}
+use Rattle.unescape_pieces.proofs.Starts.{part-means, pieces-mean, pieces-lie}
+use Rattle.unescape_pieces.proofs.Ends.{Ends, pieces_end}
 use Rattle.unescape_source.specs.Source.{source_of, meaning_in, sound, source_in}
 use Rattle.unescape_source.specs.declared.source.Source.{Source}
-use Rattle.unescape_source.specs.declared.source.Checked.{Checked}
-use Rattle.unescape_source.specs.declared.source.Checked.TheVariants as source
 use Rattle.unescape_source.proofs.Sound.{read}
 use Rattle.token_text.specs.Text.{text_by, text_in, is_text}
+use Rattle.token_text.specs.Written.{is_written}
 
--- bytes that begin otherwise are others, whatever follows; so a text that does is not the wanted one
-differs : (a b s : List ℕ) → starts_with a s ≡ false → is_same (a ++ b) s ≡ false
-differs a b s e = same-starts (a ++ b) s ∙ rw (starts-append a b s, e)
+-- a piece in front, and then the rest
+same-append : (a b s : List ℕ) → is_same (a ++ b) s ≡ starts_with a s && is_same b (drop (length a) s)
+unfolding is_same starts_with
+same-append [] b s = refl
+same-append (x ∷ a) b [] = refl
+same-append (x ∷ a) b (y ∷ s) = by_bool (eqb x y) (λ e. rw e (same-append a b s)) (λ e. rw e)
 
-never : (w wanted s : List ℕ) (k : ℕ) (m : Meaning) → Ends k (written w m) → starts_with w wanted ≡ false → is_text (text_by (written w m) 0 s) wanted ≡ false
-never w wanted s k (part a e) x f = absurd x
-never w wanted s k (bytes l) x f = differs w l wanted f
-never w wanted s k (code a e) x f = refl
-never w wanted s k (refused r) x f = refl
+pub in-front : (w : List ℕ) (m : Meaning) (s : List ℕ) → is_written (written w m) s ≡ starts_with w s && is_written m (drop (length w) s)
+in-front w (part a e) s = sym (and-false (starts_with w s))
+in-front w (bytes l) s = same-append w l s
+in-front w (refused f) s = sym (and-false (starts_with w s))
 
--- The walk
+module _ {c d : Cursor} {p : Bytes} (x : Passes c d p) (left : List ℕ) {t : Bool} (q : t ≡ starts_with (slice_of p) left) where
+  pub piece-same : t ≡ true → is_written (meaning_of c) left ≡ is_written (meaning_of d) (drop (length (slice_of p)) left)
+  piece-same e = rw (x.means, in-front, ← q, e)
 
--- there are passed bytes, `len` of them, that the wanted ones begin with
-pub record Matched (whole : Meaning) (indent s wanted : List ℕ) (at : ℕ) (spot : Spot) (len : ℕ) : Type 0 where
-  pub passed : List ℕ
-  pub walked : Walked whole indent s at spot passed
-  pub size : len ≡ length passed
-  pub starts : starts_with passed wanted ≡ true
-  pub room : len ≤ length wanted
+  pub piece-differs : t ≡ false → is_written (meaning_of c) left ≡ false
+  piece-differs e = rw (x.means, in-front, ← q, e)
 
-pub none-matched : (indent s wanted : List ℕ) (at : ℕ) (spot : Spot) → at ≤ length s
-    → Matched (meaning_from spot indent (drop at s) at) indent s wanted at spot 0
-unfolding starts_with
-none-matched indent s wanted at spot h = record { passed = []; walked = begins indent s at spot h; size = refl; starts = refl; room = omega arith }
-
-module _ {whole : Meaning} (indent s wanted : List ℕ) {at : ℕ} {spot : Spot} {len : ℕ} (c : Matched whole indent s wanted at spot len) {x : Next} (q : x ≡ next_of spot indent (drop at s)) where
-  more : (w : List ℕ) {b : Bool} → b ≡ starts_with w (drop len wanted) → starts_with (c.passed ++ w) wanted ≡ b
-  more w e = starts-append c.passed w wanted ∙ rw (c.starts, ← c.size) (sym e)
-
-  abbrev rest : Meaning
-  rest = meaning_from x.spot indent (drop (at + x.pass) s) (at + x.pass)
-
-  abbrev run : ℕ → List ℕ
-  run k = drop k (take x.pass (drop at s))
-
-  pub match-run : {k : ℕ} {b : Bool} → x.piece ≡ Run k → b ≡ starts_with (run k) (drop len wanted) → b ≡ true
-      → Matched whole indent s wanted (at + x.pass) x.spot (len + (x.pass - k))
-  match-run {k} p e t =
-      let n = c.passed ++ run k in
-      let l : len + (x.pass - k) ≡ length n = rw (length-append, ← c.size, run_length s at k x.pass (run-moves indent s at spot x q c.walked.within p).within) in
-      let g = more (run k) e ∙ t in
-      record { passed = n; walked = on-run indent s c.walked q p; size = l; starts = g; room = rw l (starts-le n wanted g) }
-
-  pub match-scalar : {n : ℕ} {b : Bool} → x.piece ≡ Scalar n → b ≡ starts_with (encoding_of n) (drop len wanted) → b ≡ true
-      → Matched whole indent s wanted (at + x.pass) x.spot (len + length (encoding_of n))
-  match-scalar {n} p e t =
-      let w = c.passed ++ encoding_of n in
-      let l : len + length (encoding_of n) ≡ length w = rw (length-append, ← c.size) in
-      let g = more (encoding_of n) e ∙ t in
-      record { passed = w; walked = on-scalar indent s c.walked q p; size = l; starts = g; room = rw l (starts-le w wanted g) }
-
-  module _ (k : ℕ) (h : Ends k whole) where
-    pub run-differs : {j : ℕ} {b : Bool} → x.piece ≡ Run j → b ≡ starts_with (run j) (drop len wanted) → b ≡ false → false ≡ is_text (text_by whole 0 s) wanted
-    run-differs {j} p e f =
-        let w = on-run indent s c.walked q p in
-        sym (rw w.means (never (c.passed ++ run j) wanted s k rest (rw w.means at h) (more (run j) e ∙ f)))
-
-    pub scalar-differs : {n : ℕ} {b : Bool} → x.piece ≡ Scalar n → b ≡ starts_with (encoding_of n) (drop len wanted) → b ≡ false → false ≡ is_text (text_by whole 0 s) wanted
-    scalar-differs {n} p e f =
-        let w = on-scalar indent s c.walked q p in
-        sym (rw w.means (never (c.passed ++ encoding_of n) wanted s k rest (rw w.means at h) (more (encoding_of n) e ∙ f)))
-
-  pub end-matched : x.piece ≡ End → eqb len (length wanted) ≡ is_text (text_by whole 0 s) wanted
-  end-matched p = sym (rw (at-end indent s c.walked q p) (same-starts c.passed wanted ∙ rw (c.starts, ← c.size)))
-
-  pub code-matched : {k : ℕ} → x.piece ≡ Code k → false ≡ is_text (text_by whole 0 s) wanted
-  code-matched p = sym (rw (at_code indent s c.walked q p))
-
-  pub refused-matched : {r : ℕ} → x.piece ≡ Refused r → false ≡ is_text (text_by whole 0 s) wanted
-  refused-matched p = sym (rw (at-refused indent s c.walked q p))
+-- no piece is left
+pub at-end : (m : Meaning) (left : List ℕ) {t : Bool} → m ≡ bytes [] → t ≡ eqb (length left) 0 → t ≡ is_written m left
+unfolding is_same
+at-end m [] e q = rw e q
+at-end m (b ∷ left) e q = rw e (q ∙ ne_eqb (suc (length left)) 0 (λ z. omega arith))
 
 -- A text as it is read
 
@@ -108,17 +63,24 @@ module _ {whole : Meaning} (indent s wanted : List ℕ) {at : ℕ} {spot : Spot}
 any_place : (m : Meaning) (n : ℕ) (s w : List ℕ) → is_text (text_by m 0 s) w ≡ is_text (text_by m n s) w
 any_place (part a e) n s w = refl
 any_place (bytes l) n s w = refl
-any_place (code a e) n s w = refl
-any_place (refused r) n s w = refl
+any_place (refused f) n s w = refl
+
+-- one that is no part of the text is written
+no_part : (k : ℕ) (m : Meaning) (s w : List ℕ) → Ends k m → is_written m w ≡ is_text (text_by m 0 s) w
+no_part k (part a e) s w x = absurd x
+no_part k (bytes l) s w x = refl
+no_part k (refused f) s w x = refl
 
 module _ (style : Style) (s indent wanted : List ℕ) where
-  pub plain-meant : {a e : ℕ} → start_of style s ≡ Plain a e
-      → is_same (take (e - a) (drop a s)) wanted ≡ is_text (text_by (meaning style s indent) 0 s) wanted
+  pub plain-meant : {p : Part} → start_of style s ≡ Plain p
+      → is_same (take (p.end - p.start) (drop p.start s)) wanted ≡ is_text (text_by (meaning style s indent) 0 s) wanted
   plain-meant q = rw (part-means style s indent q)
 
   pub pieces-meant : {n : ℕ} {spot : Spot} → start_of style s ≡ Pieces n spot
-      → is_text (text_by (meaning_from spot indent (drop n s) n) 0 s) wanted ≡ is_text (text_by (meaning style s indent) 0 s) wanted
-  pieces-meant q = rw (pieces-mean style s indent q)
+      → is_written (meaning_from spot indent (drop n s) n) wanted ≡ is_text (text_by (meaning style s indent) 0 s) wanted
+  pieces-meant {n} {spot} q =
+      rw (pieces-mean style s indent q)
+      (no_part (length s) (meaning_from spot indent (drop n s) n) s wanted (pieces_end spot indent s n (pieces-lie style s q)))
 
 -- The text of a token
 
@@ -129,7 +91,7 @@ not-both true false u v e = and-false u
 not-both false b u v e = refl
 
 module _ (d : List ℕ) (t : Token) (w : List ℕ) where
-  pub unread-none : {n l : ℕ} → source_in d t ≡ source.Refused n l → false ≡ is_text (text_in d t) w
+  pub unread-none : {e : SyntaxError} → source_in d t ≡ Err e → false ≡ is_text (text_in d t) w
   unfolding text_in
   unread-none e = sym (rw e)
 
@@ -146,20 +108,22 @@ module _ (d : List ℕ) (t : Token) (w : List ℕ) where
     abbrev meant : Bool
     meant = is_text (text_by (meaning_in d x) 0 (bytes_of d x.text)) w
 
-    read-text : {y : Source} → source_in d t ≡ source.Readable y → meant ≡ is_text (text_in d t) w
+    read-text : {y : Source} → source_in d t ≡ Ok y → meant ≡ is_text (text_in d t) w
     unfolding text_in
     read-text {y} e =
         let z = q ∙ (read d t e).is in
         rw (e, z) (any_place (meaning_in d y) y.text.start (bytes_of d y.text) w)
 
     module _ {b : Bool} (m : b ≡ meant) where
-      pub same_text : {y : Source} → b ≡ true → source_in d t ≡ source.Readable y → true ≡ is_text (text_in d t) w
-      same_text f e = sym f ∙ m ∙ read-text e
+      -- the same text is that of the token where it may be read
+      pub same_text : (r : Result Source SyntaxError) → b ≡ true → r ≡ source_in d t → is_ok r ≡ is_text (text_in d t) w
+      same_text (Ok y) f e = sym f ∙ m ∙ read-text (sym e)
+      same_text (Err x) f e = unread-none (sym e)
 
       -- another text, whether it may be read or not
-      other : (c : Checked) → b ≡ false → source_in d t ≡ c → false ≡ is_text (text_in d t) w
-      other (source.Readable y) f e = sym f ∙ m ∙ read-text e
-      other (source.Refused n l) f e = unread-none e
+      other : (c : Result Source SyntaxError) → b ≡ false → source_in d t ≡ c → false ≡ is_text (text_in d t) w
+      other (Ok y) f e = sym f ∙ m ∙ read-text e
+      other (Err x) f e = unread-none e
 
       pub other_none : b ≡ false → false ≡ is_text (text_in d t) w
       other_none f = other (source_in d t) f refl

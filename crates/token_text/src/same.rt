@@ -1,59 +1,50 @@
 // A token's text compared with wanted bytes, piece by piece.
-ghost use Rattle.std.specs.Prelude.{◌≡◌, ◌≤◌, length, drop};
+ghost use Rattle.std.specs.Prelude.{◌≡◌};
 ghost use Rattle.unescape_pieces.specs.Meaning.{meaning};
-ghost use Rattle.unescape_pieces.specs.Pieces.{meaning_from};
+ghost use Rattle.unescape_pieces.specs.Cursor.{meaning_of};
 ghost use Rattle.token_text.specs.Text.{is_text, text_by, text_in};
+ghost use Rattle.token_text.specs.Written.{is_written};
 
 use tokenizer::{Token, part_fits};
-use unescape_pieces::{Piece, Spot, Start, Style, next_piece, start_of};
-use unescape_source::{Checked, source_in, source_of};
+use unescape_pieces::{Cursor, Start, Style, start_of};
+use unescape_source::{source_in, source_of};
 
-// Whether what is written from the cursor on is the wanted bytes. The first piece that differs decides.
-fn is_written(start: usize, first: Spot, indent: &[u8], s: &[u8], wanted: &[u8]) -> bool
-    requires { start ≤ length s.now }
-    ensures { result ≡ is_text (text_by (meaning_from first indent.now (drop start s.now) start) 0 s.now) wanted.now }
+// Whether what is written from a cursor on is the wanted bytes. The first piece that differs decides.
+fn is_written(mut cursor: Cursor, wanted: &[u8]) -> bool
+    ensures { result ≡ is_written (meaning_of cursor.entry) wanted.now }
 {
-    let mut at = start;
-    let mut spot = first;
-    let mut len = 0;
+    let mut left = wanted;
     loop {
-        let next = next_piece(spot, indent, &s[at..]);
-        let piece = next.piece;
-        let pass = next.pass;
-        match piece {
-            Piece::Run(skip) => {
-                if !text::starts_with(&wanted[len..], &s[at + skip..at + pass]) {
-                    return false;
-                }
-                len += pass - skip;
-                at += pass;
-                spot = next.spot;
-            }
-            Piece::Scalar(n) => {
-                let e = utf8::encode(n);
-                let bytes = e.bytes;
-                let size = e.len;
-                if !text::starts_with(&wanted[len..], &bytes[..size]) {
-                    return false;
-                }
-                len += size;
-                at += pass;
-                spot = next.spot;
-            }
-            Piece::End => return len == wanted.len(),
-            Piece::Code(_) => return false,
-            Piece::Refused(_) => return false,
+        let found = match cursor.next() {
+            Ok(found) => found,
+            Err(_) => return false,
+        };
+        let Some(piece) = found else {
+            return left.is_empty();
+        };
+        let bytes = piece.as_slice();
+        if !text::starts_with(left, bytes) {
+            return false;
         }
+        left = &left[bytes.len()..];
     }
 }
 
 // Whether a text, as it is read, comes to the wanted bytes.
-fn is_meant(style: Style, s: &[u8], indent: &[u8], wanted: &[u8]) -> bool
-    ensures { result ≡ is_text (text_by (meaning style s.now indent.now) 0 s.now) wanted.now }
+fn is_meant(style: Style, text: &[u8], indent: &[u8], wanted: &[u8]) -> bool
+    ensures { result ≡ is_text (text_by (meaning style text.now indent.now) 0 text.now) wanted.now }
 {
-    match start_of(style, s) {
-        Start::Plain(a, e) => text::is_same(&s[a..e], wanted),
-        Start::Pieces(at, spot) => is_written(at, spot, indent, s, wanted),
+    match start_of(style, text) {
+        Start::Plain(p) => text::is_same(&text[p.start..p.end], wanted),
+        Start::Pieces(at, spot) => {
+            let cursor = Cursor {
+                text,
+                indent,
+                at,
+                spot,
+            };
+            is_written(cursor, wanted)
+        }
     }
 }
 
@@ -76,8 +67,5 @@ pub fn is_text(t: Token, doc: &[u8], wanted: &[u8]) -> bool
     if !is_meant(style, &doc[from..to], &doc[indent_from..indent_to], wanted) {
         return false;
     }
-    match source_in(t, doc) {
-        Checked::Readable(_) => true,
-        Checked::Refused(_, _) => false,
-    }
+    source_in(t, doc).is_ok()
 }

@@ -1,4 +1,5 @@
 -- The step without the record of open indentations: what its test tells, and that of a fit state it is the step.
+use Rattle.std.specs.Prelude.{Option, Some, None}
 use Prim.Native.Nat.{ℕ, ◌+◌, ◌^◌, ◌≤◌, ◌<◌}
 use mathlib.Core.Path.{◌≡◌}
 use mathlib.Core.List.{List}
@@ -11,7 +12,7 @@ use Rattle.text.specs.Trimming.{dropped}
 use Rattle.text.specs.declared.bytes.Part.{Part}
 use Rattle.text.specs.declared.trimming.Dropped.TheVariants.{Blanks}
 use Rattle.text.proofs.Cases.{and_left, and_right}
-use Rattle.text.proofs.Scan.{count-le}
+use Rattle.std.proofs.lemmas.List.Sums.{prefix_len-le-length}
 use Rattle.tokenizer_scans.specs.Scans.{blanks}
 use Rattle.tokenizer_rules.specs.Plan.{plan_at}
 use Rattle.tokenizer_rules.specs.declared.plan.Plan.{Plan}
@@ -33,8 +34,6 @@ use Rattle.tokenizer.specs.Step.{
   step_of,
 }
 use Rattle.tokenizer.specs.Front.{front_of, said_by, advance_with, advance_rule, near, staying, advanced_of}
-use Rattle.tokenizer.specs.declared.state.Held.{Held}
-use Rattle.tokenizer.specs.declared.state.Held.TheVariants.{Nothing, At}
 use Rattle.tokenizer.specs.declared.state.State.{State}
 use Rattle.tokenizer.specs.declared.front.Front.{Front}
 use Rattle.tokenizer.proofs.Bounds.{plan-bounded}
@@ -81,12 +80,12 @@ pub indent-near : (d : List ℕ) (f : Front) → f.place ≤ length d → fit_he
 unfolding blanks
 indent-near d f h e = at f.held e
   where
-    at : (x : Held) → fit_held (length d) x ≡ true → fit_part (length d) (indent_of x f.place (drop f.place d)) ≡ true
-    at Nothing q =
+    at : (x : Option Part) → fit_held (length d) x ≡ true → fit_part (length d) (indent_of x f.place (drop f.place d)) ≡ true
+    at None q =
         let r = drop f.place d in
         part-fit (length d) (record { start = f.place; end = f.place + blanks r }) (omega arith)
-        (omega (arith, h, count-le (dropped Blanks) r, length-drop f.place d))
-    at (At p) q = q
+        (omega (arith, h, prefix_len-le-length (dropped Blanks) r, length-drop f.place d))
+    at (Some p) q = q
 
 -- what a plan adds fits a machine word
 pub room-near : (d : List ℕ) (f : Front) (inner : Part) (i : Part) (x y : List ℕ) (k : ℕ) {p : Plan} → length d ≤ 16777216 → Nearness (length d) f inner

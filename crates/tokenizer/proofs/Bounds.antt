@@ -14,7 +14,7 @@ use Rattle.text.specs.declared.trimming.Dropped.{Dropped}
 use Rattle.text.specs.declared.trimming.Dropped.TheVariants.{Blanks, BlanksAndBreaks}
 use Rattle.text.proofs.Cases.{on-cond}
 use Rattle.text.proofs.Front.{break-le, break-pos}
-use Rattle.text.proofs.Scan.{count-le}
+use Rattle.std.proofs.lemmas.List.Sums.{prefix_len-le-length}
 use Rattle.text.proofs.Trimmed.{trimmed-le}
 use Rattle.tokenizer_scans.specs.Scans.{plain_end, text_end, checked_of, multiline_end, lines_of}
 use Rattle.tokenizer_rules.specs.Plan.{said, plan_newline, plan_comment, plan_item, plan_key, plan_plain, plan_multiline, plan_outdent, plan_at}
@@ -25,7 +25,7 @@ use Rattle.tokenizer_rules.specs.declared.plan.Says.TheVariants.{Comment, MapKey
 use Rattle.tokenizer_rules.specs.declared.plan.Plan.{Plan}
 use Rattle.tokenizer.specs.declared.state.State.{State}
 use Rattle.tokenizer.proofs.Fitness.{Fitness}
-use Rattle.tokenizer_scans.proofs.Quotes.{plain-le, text-le, eq-le, hint-le}
+use Rattle.tokenizer_scans.proofs.Quotes.{plain-le, text_le, eq-le, hint-le}
 use Rattle.tokenizer_scans.proofs.Pieces.{extent-le, line_count-le}
 use Rattle.tokenizer_rules.proofs.PlanCases.{Cases, plan-cases}
 
@@ -60,7 +60,7 @@ module _ (m : Marks) (depth : ℕ) (inner indent rest : List ℕ) (k : ℕ) wher
         record {
           newline = λ e. omega (arith, break-le (b ∷ r), break-pos b r e);
           comment = λ e s.
-              omega (arith, count-le not_break r, said-le (λ p. Comment (shifted_by (k + 1) p)) (k + 1) (λ p h. omega arith) Blanks (line_end r) r);
+              omega (arith, prefix_len-le-length not_break r, said-le (λ p. Comment (shifted_by (k + 1) p)) (k + 1) (λ p h. omega arith) Blanks (line_end r) r);
           multiline = λ c i d u.
               let n = multiline_end indent false rest in
               omega (
@@ -71,14 +71,14 @@ module _ (m : Marks) (depth : ℕ) (inner indent rest : List ℕ) (k : ℕ) wher
                 said-le MultilineValue 0 (λ p h. omega arith) BlanksAndBreaks n rest,
               );
           opens = λ c i d u h. omega arith;
-          full = λ c i d u h. omega (arith, count-le not_break (b ∷ r));
+          full = λ c i d u h. omega (arith, prefix_len-le-length not_break (b ∷ r));
           outdent = λ c i d. omega arith;
           item = λ c e v t. omega arith;
           key = λ c e v t.
               let n = text_end 61 (b ∷ r) in
               omega (
                 arith,
-                text-le 61 (b ∷ r),
+                text_le 61 (b ∷ r),
                 eq-le n (b ∷ r),
                 said-le (λ p. MapKey (shifted_by k p)) k (λ p h. omega arith) Blanks n (b ∷ r),
               );
@@ -93,7 +93,7 @@ module _ (m : Marks) (depth : ℕ) (inner indent rest : List ℕ) (k : ℕ) wher
                 said-le (λ p. MultilineHint (shifted_by (k + 3) p)) (k + 3) (λ p h. omega arith) Blanks (plain_end 59 w) w,
               );
           plain = λ c e v h.
-              omega (arith, text-le 59 (b ∷ r), said-le (λ p. Value (shifted_by k p)) k (λ p h. omega arith) Blanks (text_end 59 (b ∷ r)) (b ∷ r));
+              omega (arith, text_le 59 (b ∷ r), said-le (λ p. Value (shifted_by k p)) k (λ p h. omega arith) Blanks (text_end 59 (b ∷ r)) (b ∷ r));
         };
   }
 

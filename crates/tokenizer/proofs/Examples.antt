@@ -1,9 +1,13 @@
 -- The rows marked P of document 01's 'Layouts on the test strip' that concern the tokenizer, computed from the rules.
+use Rattle.std.specs.Prelude.{Some, Ok, Err}
+use Rattle.tokenizer.specs.Token.{Answer}
+use Rattle.text.specs.Numbers.{error}
+use Rattle.text.specs.declared.refusals.Refusal.TheVariants.{CharactersAfterQuotes}
 use Prim.Native.Nat.{ℕ}
 use mathlib.Core.Path.{◌≡◌, refl}
 use mathlib.Core.List.{List, [], ◌∷◌}
 use Rattle.text.specs.Ascii.{ascii}
-use Rattle.text.specs.Bytes.{is_blank, is_break, break_size, count_while, starts_with, part}
+use Rattle.text.specs.Bytes.{is_blank, is_break, break_size, starts_with, part}
 use Rattle.text.specs.Trimming.{dropped, kept_end, trimmed}
 use Rattle.utf8.specs.Utf8.{within, lead_of, owes, utf8}
 use Rattle.tokenizer_scans.specs.Scans.{
@@ -46,8 +50,6 @@ use Rattle.tokenizer_rules.specs.Plan.{
 use Rattle.tokenizer.specs.Step.{plan_with, after_plan, step_with, step_rule, fit_open, fit, step_of, fresh}
 use Rattle.tokenizer.specs.Lists.{is_end, run, tokens}
 use Rattle.tokenizer.specs.declared.token.Token.TheVariants as token
-use Rattle.tokenizer.specs.declared.state.Answer.{Answer}
-use Rattle.tokenizer.specs.declared.state.Answer.TheVariants.{Token, Refused}
 
 -- what computing a reading unfolds
 unfoldable pub rules : List ℕ → List Answer
@@ -55,7 +57,6 @@ unfolding
     is_blank
     is_break
     break_size
-    count_while
     starts_with
     dropped
     kept_end
@@ -116,31 +117,31 @@ unfolding rules
 empty = refl
 
 -- `a = """"b`: key, refusal 2, key
-pub four_quotes : tokens (ascii "a = \"\"\"\"b") ≡ Token (token.MapKey 1 (part 0 1)) ∷ Refused 2 1 ∷ Token (token.MapKey 1 (part 4 9)) ∷ []
+pub four_quotes : tokens (ascii "a = \"\"\"\"b") ≡ Some (Ok (token.MapKey 1 (part 0 1))) ∷ Some (Err (error CharactersAfterQuotes 1)) ∷ Some (Ok (token.MapKey 1 (part 4 9))) ∷ []
 unfolding rules
 four_quotes = refl
 
 -- `a = """` LF `;x`: the empty key before the comment
 pub hint-then-comment : tokens (ascii "a = \"\"\"\n;x")
-    ≡ Token (token.MapKey 1 (part 0 1)) ∷ Token (token.MultilineHint 1 (part 7 7)) ∷ Token (token.Newline 1) ∷ Token (token.MapKey 2 (part 8 8)) ∷ Token (token.Comment 2 (part 9 10)) ∷ []
+    ≡ Some (Ok (token.MapKey 1 (part 0 1))) ∷ Some (Ok (token.MultilineHint 1 (part 7 7))) ∷ Some (Ok (token.Newline 1)) ∷ Some (Ok (token.MapKey 2 (part 8 8))) ∷ Some (Ok (token.Comment 2 (part 9 10))) ∷ []
 unfolding rules
 hint-then-comment = refl
 
 -- one space then `a`
-pub space-a : tokens (ascii " a") ≡ Token (token.Indent 1) ∷ Token (token.MapKey 1 (part 1 2)) ∷ Token (token.Outdent 1) ∷ []
+pub space-a : tokens (ascii " a") ≡ Some (Ok (token.Indent 1)) ∷ Some (Ok (token.MapKey 1 (part 1 2))) ∷ Some (Ok (token.Outdent 1 0)) ∷ []
 unfolding rules
 space-a = refl
 
 -- `k` LF ` a = """` LF `  x`: the Outdent is on line 4
 pub outdent_on_line_four : tokens (ascii "k\n a = \"\"\"\n  x")
-    ≡ Token (token.MapKey 1 (part 0 1))
-    ∷ Token (token.Newline 1)
-    ∷ Token (token.Indent 2)
-    ∷ Token (token.MapKey 2 (part 3 4))
-    ∷ Token (token.MultilineHint 2 (part 10 10))
-    ∷ Token (token.Newline 2)
-    ∷ Token (token.MultilineValue 3 (part 11 13) (part 13 14))
-    ∷ Token (token.Outdent 4)
+    ≡ Some (Ok (token.MapKey 1 (part 0 1)))
+    ∷ Some (Ok (token.Newline 1))
+    ∷ Some (Ok (token.Indent 2))
+    ∷ Some (Ok (token.MapKey 2 (part 3 4)))
+    ∷ Some (Ok (token.MultilineHint 2 (part 10 10)))
+    ∷ Some (Ok (token.Newline 2))
+    ∷ Some (Ok (token.MultilineValue 3 (part 11 13) (part 13 14)))
+    ∷ Some (Ok (token.Outdent 4 0))
     ∷ []
 unfolding rules
 outdent_on_line_four = refl

@@ -2,11 +2,14 @@
 use Prim.Native.Nat.{ℕ, zero, suc, ◌+◌, ◌-◌, ◌≤◌, ◌<◌}
 use mathlib.Core.Path.{◌≡◌, refl, ◌∙◌}
 use mathlib.Core.List.{List}
-use mathlib.Core.Bool.{Bool, true, false, cond, ◌&&◌, and_comm, and-false}
+use mathlib.Core.Bool.{Bool, true, false, cond, ◌&&◌, and_comm, and-false, and-true}
 use native.Mathlib.Numerals.{add-one, sub-one}
 use native.Mathlib.Omega.{arith}
 use lib.Dec.{eqb, leb, ltb, eqb-suc-zero}
-use lib.ListN.{get_or}
+use lib.ListN.{length, take, get_or}
+use lib.Seq.{take-suc}
+use Rattle.std.specs.List.{list_all}
+use Rattle.std.proofs.lemmas.List.Folds.{list_all-append}
 use borrow.Author.Tests.{le-leb, lt-leb, leb-true, lt-ltb, ltb-true}
 use Rattle.text.specs.declared.bytes.Part.{Part}
 use Rattle.text.proofs.Cases.{and_left, and_right}
@@ -71,6 +74,14 @@ pub open_more : (n : ℕ) (indents : List Part) (i : ℕ) {t u : Bool} → t ≡
     → (t && u) ≡ fit_open n indents (i + 1)
 unfolding fit_open
 open_more n indents i p q = rw (p, q, add-one) (and_comm (fit_open n indents i) (fit_part n (get_or indents i no_part)))
+
+-- all of the open indentations, tested in their order
+pub all_open : (n : ℕ) (indents : List Part) (k : ℕ) → k ≤ length indents → list_all (fit_part n) (take k indents) ≡ fit_open n indents k
+unfolding fit_open
+all_open n indents zero h = refl
+all_open n indents (suc k) h =
+    rw (take-suc indents k no_part h, list_all-append, all_open n indents k (omega arith), and-true)
+    (rw add-one at (open_more n indents k refl refl))
 
 -- one test that fails
 module _ (n : ℕ) (s : State) where

@@ -1,5 +1,6 @@
 -- What a step keeps: a fit state of a document within the limit stays fit, so that neither 12 nor 15 comes after a step that
 -- was neither.
+use Rattle.std.specs.Prelude.{Option, Some, None}
 use Prim.Native.Nat.{ℕ, zero, suc, ◌+◌, ◌-◌, ◌≤◌}
 use mathlib.Core.Path.{◌≡◌, refl}
 use mathlib.Core.List.{List, [], ◌∷◌}
@@ -12,7 +13,7 @@ use Rattle.text.specs.Trimming.{dropped}
 use Rattle.text.specs.declared.bytes.Part.{Part}
 use Rattle.text.specs.declared.trimming.Dropped.TheVariants.{Blanks}
 use Rattle.text.proofs.Cases.{and_right}
-use Rattle.text.proofs.Scan.{count-le}
+use Rattle.std.proofs.lemmas.List.Sums.{prefix_len-le-length}
 use Rattle.tokenizer_scans.specs.Scans.{blanks}
 use Rattle.tokenizer.specs.Step.{
   no_part,
@@ -33,8 +34,6 @@ use Rattle.tokenizer.specs.Step.{
 use Rattle.tokenizer_rules.specs.declared.plan.Change.{Change}
 use Rattle.tokenizer_rules.specs.declared.plan.Change.TheVariants.{Keep, Open, Close, Hold}
 use Rattle.tokenizer_rules.specs.declared.plan.Plan.{Plan}
-use Rattle.tokenizer.specs.declared.state.Held.{Held}
-use Rattle.tokenizer.specs.declared.state.Held.TheVariants.{Nothing, At}
 use Rattle.tokenizer.specs.declared.state.State.{State}
 use Rattle.tokenizer.proofs.Bounds.{Bounded, plan-bounded}
 use Rattle.tokenizer.proofs.Fitness.{Fitness, fitness, is-fit, part-fit}
@@ -78,12 +77,12 @@ module _ (d : List ℕ) (s : State) where
   unfolding blanks
   indent-fit f = at s.held f.held
     where
-      at : (h : Held) → fit_held (length d) h ≡ true → fit_part (length d) (indent_of h s.place (drop s.place d)) ≡ true
-      at Nothing e =
+      at : (h : Option Part) → fit_held (length d) h ≡ true → fit_part (length d) (indent_of h s.place (drop s.place d)) ≡ true
+      at None e =
           let r = drop s.place d in
           part-fit (length d) (record { start = s.place; end = s.place + blanks r }) (omega arith)
-          (omega (arith, f.place, count-le (dropped Blanks) r, length-drop s.place d))
-      at (At p) e = e
+          (omega (arith, f.place, prefix_len-le-length (dropped Blanks) r, length-drop s.place d))
+      at (Some p) e = e
 
   after-fit : (i : Part) (p : Plan) → Fitness (length d) s → fit_part (length d) i ≡ true → Bounded (length (drop s.place d)) s.depth p
       → Fitness (length d) (after_plan s i p)

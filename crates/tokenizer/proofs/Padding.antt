@@ -1,19 +1,12 @@
--- A name is copied byte by byte over zeros: after n bytes the array holds the first n bytes of the text and its own zeros after them.
-use Prim.Native.Nat.{ℕ, zero, suc, ◌+◌, ◌≤◌, ◌<◌, min}
+-- A name is copied over zeros: the array holds the first n bytes of the text and its own zeros after them.
+use Prim.Native.Nat.{ℕ, zero, suc, ◌≤◌, min}
 use mathlib.Core.Path.{◌≡◌, ap}
 use mathlib.Core.List.{List, [], ◌∷◌, ◌++◌}
-use native.Mathlib.Nat.{zero-add, zero-min, min-zero, suc-min-suc}
-use native.Mathlib.Numerals.{add-one}
+use native.Mathlib.Nat.{zero-min, min-zero, suc-min-suc}
 use native.Mathlib.Omega.{arith}
-use lib.ListN.{length, take, drop, get_or, set, replicate}
-use lib.Seq.{paste-suc}
+use lib.ListN.{length, take, drop, replicate}
 use Rattle.tokenizer.specs.Token.{padded}
 use Rattle.tokenizer.specs.declared.token.Name.{Name}
-
--- one byte more
-pub copied : (z s : List ℕ) (n : ℕ) → n < length z → n < length s
-    → set (take n s ++ drop n z) n (get_or s n 0) ≡ take (n + 1) s ++ drop (n + 1) z
-copied z s n h k = rw add-one (simp zero-add at (paste-suc z 0 s n 0 (rw zero-add h) k))
 
 -- n bytes of a text with enough zeros after it
 pad : (n m : ℕ) (s : List ℕ) → n ≤ m → take n (s ++ replicate m 0) ≡ take (min n (length s)) s ++ drop (min n (length s)) (replicate n 0)

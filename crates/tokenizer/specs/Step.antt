@@ -1,8 +1,10 @@
 -- Law: document 01, 'Tokenizer': the state, the step over it, and the numbers 12 and 15 of its 'Numbers by the place
 -- where they are checked'.
-use Rattle.std.specs.Prelude.{ℕ, zero, suc, ◌+◌, ◌-◌, max, List, Bool, true, false, cond, ◌&&◌, length, take, drop, get_or, set, replicate, leb, ltb}
+use Rattle.std.specs.Prelude.{Option, Some, None, Ok, Err, ℕ, zero, suc, ◌+◌, ◌-◌, max, List, Bool, true, false, cond, ◌&&◌, length, take, drop, get_or, set, replicate, leb, ltb}
 use Rattle.text.specs.Bytes.{shifted_by}
-use Rattle.text.specs.Numbers.{max_document, max_open, too_long, unfit_state}
+use Rattle.text.specs.Numbers.{max_document, max_open, error}
+use Rattle.text.specs.declared.refusals.Refusal.{Refusal}
+use Rattle.text.specs.declared.refusals.Refusal.TheVariants.{TooLong, UnfitState}
 use Rattle.text.specs.declared.bytes.Part.{Part}
 use Rattle.tokenizer_scans.specs.Scans.{blanks}
 use Rattle.tokenizer_rules.specs.Plan.{plan_at}
@@ -24,10 +26,7 @@ use Rattle.tokenizer_rules.specs.declared.plan.Change.{Change}
 use Rattle.tokenizer_rules.specs.declared.plan.Change.TheVariants.{Keep, Open, Close, Hold}
 use Rattle.tokenizer_rules.specs.declared.plan.Plan.{Plan}
 use Rattle.tokenizer.specs.declared.token.Token.TheVariants as token
-use Rattle.tokenizer.specs.declared.state.Answer.{Answer}
-use Rattle.tokenizer.specs.declared.state.Answer.TheVariants as answer
-use Rattle.tokenizer.specs.declared.state.Held.{Held}
-use Rattle.tokenizer.specs.declared.state.Held.TheVariants.{Nothing, At}
+use Rattle.tokenizer.specs.Token.{Answer}
 use Rattle.tokenizer.specs.declared.state.State.{State}
 use Rattle.tokenizer.specs.declared.state.Step.{Step}
 
@@ -39,13 +38,13 @@ abbrev pub no_part : Part
 no_part = record { start = 0; end = 0 }
 
 -- Rule 1: the held indentation, or the blanks at the place; and how many bytes stand between the place and the rest
-abbrev pub indent_of : Held → ℕ → List ℕ → Part
-indent_of Nothing place rest = record { start = place; end = place + blanks rest }
-indent_of (At p) place rest = p
+abbrev pub indent_of : Option Part → ℕ → List ℕ → Part
+indent_of None place rest = record { start = place; end = place + blanks rest }
+indent_of (Some p) place rest = p
 
-abbrev pub size_of : Held → List ℕ → ℕ
-size_of Nothing rest = blanks rest
-size_of (At p) rest = 0
+abbrev pub size_of : Option Part → List ℕ → ℕ
+size_of None rest = blanks rest
+size_of (Some p) rest = 0
 
 -- the innermost open indentation, or the empty one
 abbrev pub inner_of : List Part → ℕ → Part
@@ -64,11 +63,11 @@ depth_after Open n = n + 1
 depth_after Close n = n - 1
 depth_after Hold n = n - 1
 
-abbrev pub held_after : Change → Part → Held
-held_after Keep i = Nothing
-held_after Open i = Nothing
-held_after Close i = Nothing
-held_after Hold i = At i
+abbrev pub held_after : Change → Part → Option Part
+held_after Keep i = None
+held_after Open i = None
+held_after Close i = None
+held_after Hold i = Some i
 
 -- the end of the text that is said, counted from the place; 0 where there is none
 abbrev pub reach : Says → ℕ
@@ -86,17 +85,17 @@ reach (Refused n) = 0
 
 -- what is said, with its line and its places
 abbrev pub answer_of : Says → ℕ → ℕ → Part → Answer
-answer_of End l n i = answer.End
-answer_of Newline l n i = answer.Token (token.Newline l)
-answer_of (Comment p) l n i = answer.Token (token.Comment l (shifted_by n p))
-answer_of Indent l n i = answer.Token (token.Indent l)
-answer_of Outdent l n i = answer.Token (token.Outdent l)
-answer_of ListItem l n i = answer.Token (token.ListItem l)
-answer_of (MapKey p) l n i = answer.Token (token.MapKey l (shifted_by n p))
-answer_of (Value p) l n i = answer.Token (token.Value l (shifted_by n p))
-answer_of (MultilineHint p) l n i = answer.Token (token.MultilineHint l (shifted_by n p))
-answer_of (MultilineValue p) l n i = answer.Token (token.MultilineValue l i (shifted_by n p))
-answer_of (Refused r) l n i = answer.Refused r l
+answer_of End l n i = None
+answer_of Newline l n i = Some (Ok (token.Newline l))
+answer_of (Comment p) l n i = Some (Ok (token.Comment l (shifted_by n p)))
+answer_of Indent l n i = Some (Ok (token.Indent l))
+answer_of Outdent l n i = Some (Ok (token.Outdent l 0))
+answer_of ListItem l n i = Some (Ok (token.ListItem l))
+answer_of (MapKey p) l n i = Some (Ok (token.MapKey l (shifted_by n p)))
+answer_of (Value p) l n i = Some (Ok (token.Value l (shifted_by n p)))
+answer_of (MultilineHint p) l n i = Some (Ok (token.MultilineHint l (shifted_by n p)))
+answer_of (MultilineValue p) l n i = Some (Ok (token.MultilineValue l i (shifted_by n p)))
+answer_of (Refused r) l n i = Some (Err (error r l))
 
 -- the plan of a state whose indentation is i, k bytes of it standing at the place
 unfoldable pub plan_with : List ℕ → State → Part → ℕ → Plan
@@ -115,22 +114,22 @@ after_plan s i p = record {
 }
 
 -- Rules 2 to 6 for an indentation
-unfoldable pub step_with : List ℕ → State → Part → ℕ → Step
+unfoldable pub step_with : List ℕ → State → Part → ℕ → Step State
 step_with d s i k =
     let p = plan_with d s i k in
     record { answer = answer_of p.says s.line s.place i; state = after_plan s i p }
 
 -- one step of a fit state
-unfoldable pub step_rule : List ℕ → State → Step
+unfoldable pub step_rule : List ℕ → State → Step State
 step_rule d s = step_with d s (indent_of s.held s.place (drop s.place d)) (size_of s.held (drop s.place d))
 
 -- an indentation does not end before it starts, nor past the document
 abbrev pub fit_part : ℕ → Part → Bool
 fit_part n p = leb p.start p.end && leb p.end n
 
-abbrev pub fit_held : ℕ → Held → Bool
-fit_held n Nothing = true
-fit_held n (At p) = fit_part n p
+abbrev pub fit_held : ℕ → Option Part → Bool
+fit_held n None = true
+fit_held n (Some p) = fit_part n p
 
 unfoldable pub fit_open : ℕ → List Part → ℕ → Bool
 fit_open n indents zero = true
@@ -142,12 +141,12 @@ fit n s =
     leb s.place n && (ltb 0 s.line && (leb s.line (s.place + 1) && (fit_held n s.held && (leb s.depth max_open && fit_open n s.indents s.depth))))
 
 -- a refusal that gives the very state back
-abbrev pub refusal : ℕ → State → Step
-refusal n s = record { answer = answer.Refused n 0; state = s }
+abbrev pub refusal : Refusal → State → Step State
+refusal r s = record { answer = Some (Err (error r 0)); state = s }
 
 -- the step: 12, then 15, then the rules
-unfoldable pub step_of : List ℕ → State → Step
-step_of d s = cond (ltb max_document (length d)) (refusal too_long s) (cond (fit (length d) s) (step_rule d s) (refusal unfit_state s))
+unfoldable pub step_of : List ℕ → State → Step State
+step_of d s = cond (ltb max_document (length d)) (refusal TooLong s) (cond (fit (length d) s) (step_rule d s) (refusal UnfitState s))
 
 -- the fresh state
 unfoldable pub fresh : State
@@ -155,7 +154,7 @@ fresh = record {
   place = 0;
   line = 1;
   marks = record { indent = true; value = false; multiline = false };
-  held = Nothing;
+  held = None;
   indents = replicate max_open no_part;
   depth = 0;
 }

@@ -1,6 +1,6 @@
 -- Law: document 01, 'Look-up and listing': tokens in its numbers, kinds 1 to 10, each with its line and its parts; a
 -- refusal is 256 and its number, End 0. And a token's line and name, as 'What stays and what is written anew' has them.
-use Rattle.std.specs.Prelude.{ℕ, ◌+◌, List, ◌++◌, length, take, replicate, min}
+use Rattle.std.specs.Prelude.{ℕ, ◌+◌, List, ◌++◌, length, take, replicate, min, Option, Some, None, Result, Ok, Err}
 use Rattle.text.specs.Ascii.{ascii}
 use Rattle.text.specs.declared.bytes.Part.{Part}
 use Rattle.tokenizer.specs.declared.token.Token.{Token}
@@ -17,9 +17,12 @@ use Rattle.tokenizer.specs.declared.token.Token.TheVariants.{
   NoValue,
 }
 use Rattle.tokenizer.specs.declared.token.Name.{Name}
-use Rattle.tokenizer.specs.declared.state.Answer.{Answer}
-use Rattle.tokenizer.specs.declared.state.Answer.TheVariants.{End, Refused}
-use Rattle.tokenizer.specs.declared.state.Answer.TheVariants.{Token as Gives}
+use Rattle.text.specs.Numbers.{number_of}
+use Rattle.text.specs.declared.refusals.SyntaxError.{SyntaxError}
+
+-- what a step answers: End, a token, or a refusal with its line
+abbrev pub Answer : Type 0
+Answer = Option (Result Token SyntaxError)
 
 -- number, line, start and end of the text, start and end of the indentation; 0 where there is none. The last is the
 -- parser's: the line of the key or item whose section an Outdent closes, and 0 else.
@@ -43,7 +46,7 @@ unfoldable pub token_values : Token → Values
 token_values (Newline l) = bare 1 l
 token_values (Comment l p) = with_text 2 l p
 token_values (Indent l) = bare 3 l
-token_values (Outdent l) = bare 4 l
+token_values (Outdent l o) = record { number = 4; line = l; start = 0; end = 0; from = 0; to = 0; opened = o }
 token_values (ListItem l) = bare 5 l
 token_values (MapKey l p) = with_text 6 l p
 token_values (Value l p) = with_text 7 l p
@@ -57,16 +60,16 @@ refusal_number n = 256 + n
 
 -- an answer's: 0 for End, 256 and the number for a refusal
 unfoldable pub values_of : Answer → Values
-values_of End = bare 0 0
-values_of (Gives t) = token_values t
-values_of (Refused n l) = bare (refusal_number n) l
+values_of None = bare 0 0
+values_of (Some (Ok t)) = token_values t
+values_of (Some (Err e)) = bare (refusal_number (number_of e.refusal)) e.line
 
 -- the line on which a token starts
 unfoldable pub line_of : Token → ℕ
 line_of (Newline l) = l
 line_of (Comment l p) = l
 line_of (Indent l) = l
-line_of (Outdent l) = l
+line_of (Outdent l o) = l
 line_of (ListItem l) = l
 line_of (MapKey l p) = l
 line_of (Value l p) = l
@@ -79,7 +82,7 @@ unfoldable pub name_of : Token → List ℕ
 name_of (Newline l) = ascii "newline"
 name_of (Comment l p) = ascii "comment"
 name_of (Indent l) = ascii "indent"
-name_of (Outdent l) = ascii "outdent"
+name_of (Outdent l o) = ascii "outdent"
 name_of (ListItem l) = ascii "list item"
 name_of (MapKey l p) = ascii "map key"
 name_of (Value l p) = ascii "value"

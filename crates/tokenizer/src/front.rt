@@ -6,9 +6,7 @@ ghost use Rattle.tokenizer.specs.Token.{bare, with_text, values_of};
 ghost use Rattle.tokenizer.specs.Step.{answer_of, reach, depth_after};
 ghost use Rattle.tokenizer.specs.Front.{said_by, advanced_by, near, staying, advanced_of};
 
-use crate::state::{
-    Held, State, depth_after, held_after, held_fits, indent_at, part_fits, planned,
-};
+use crate::state::{State, depth_after, held_after, held_fits, indent_at, part_fits, planned};
 use text::Part;
 use tokenizer_rules::{Change, Marks, Plan, Says};
 
@@ -18,7 +16,7 @@ pub struct Front {
     pub place: usize,
     pub line: usize,
     pub marks: Marks,
-    pub held: Held,
+    pub held: Option<Part>,
     pub depth: usize,
 }
 
@@ -99,7 +97,7 @@ fn numbered(says: Says, line: usize, place: usize, indent: Part) -> Said
             to: indent.end,
             opened: 0,
         },
-        Says::Refused(n) => say(256 + n, line),
+        Says::Refused(r) => say(256 + usize::from(r), line),
     }
 }
 

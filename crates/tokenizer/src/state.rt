@@ -23,39 +23,29 @@ ghost use Rattle.tokenizer.specs.Step.{
 };
 
 use crate::token::Token;
-use text::{Dropped, Part};
+use text::{Dropped, Part, Refusal, SyntaxError};
 use tokenizer_rules::{Change, Marks, Plan, Says, plan_at};
 
-// What a step answers. A refusal has document 01's number, and its line.
-#[derive(Clone, Copy)]
-pub enum Answer {
-    End,
-    Token(Token),
-    Refused(usize, usize),
-}
+// What a step answers, as the Rust's iterator does: nothing at the end, a token, or a refusal with its line.
+pub type Answer = Option<Result<Token, SyntaxError>>;
 
-// The indentation that an Outdent left for the next step, if any: the Rust's current_indent.
-#[derive(Clone, Copy)]
-pub enum Held {
-    Nothing,
-    At(Part),
-}
-
-// Where the reading stands. The open indentations, the Rust's indent_stack, are the first `depth` of `indents`.
+// Where the reading stands. What is held, the Rust's current_indent, is the indentation that an Outdent left for the next
+// step. The open indentations, the Rust's indent_stack, are the first `depth` of `indents`.
 #[derive(Clone, Copy)]
 pub struct State {
     pub place: usize,
     pub line: usize,
     pub marks: Marks,
-    pub held: Held,
+    pub held: Option<Part>,
     pub indents: [Part; 64],
     pub depth: usize,
 }
 
+// What a step answers, and the state for the next call: the tokenizer's, or the parser's.
 #[derive(Clone, Copy)]
-pub struct Step {
+pub struct Step<S> {
     pub answer: Answer,
-    pub state: State,
+    pub state: S,
 }
 
 // Whether p neither ends before it starts nor ends past n bytes.
@@ -66,12 +56,12 @@ pub fn part_fits(p: Part, n: usize) -> bool
 }
 
 // The same of what is held, if anything.
-pub fn held_fits(held: Held, n: usize) -> bool
+pub fn held_fits(held: Option<Part>, n: usize) -> bool
     ensures { result ≡ fit_held n held }
 {
     match held {
-        Held::Nothing => true,
-        Held::At(p) => part_fits(p, n),
+        None => true,
+        Some(p) => part_fits(p, n),
     }
 }
 
@@ -82,14 +72,14 @@ pub(crate) struct Indentation {
     pub(crate) size: usize,
 }
 
-pub(crate) fn indent_at(held: Held, place: usize, rest: &[u8]) -> Indentation
+pub(crate) fn indent_at(held: Option<Part>, place: usize, rest: &[u8]) -> Indentation
     requires { place + length rest.now < 2 ^ 64 }
     ensures part_value { result.part ≡ indent_of held place rest.now }
     ensures size_value { result.size ≡ size_of held rest.now }
 {
     match held {
-        Held::At(p) => Indentation { part: p, size: 0 },
-        Held::Nothing => {
+        Some(p) => Indentation { part: p, size: 0 },
+        None => {
             let size = text::leading(Dropped::Blanks, rest);
             Indentation {
                 part: Part {
@@ -120,32 +110,28 @@ fn answered(says: Says, line: usize, place: usize, indent: Part) -> Answer
     ensures { result ≡ answer_of says line place indent }
 {
     match says {
-        Says::End => Answer::End,
-        Says::Newline => Answer::Token(Token::Newline(line)),
-        Says::Comment(p) => Answer::Token(Token::Comment(line, shifted(place, p))),
-        Says::Indent => Answer::Token(Token::Indent(line)),
-        Says::Outdent => Answer::Token(Token::Outdent(line)),
-        Says::ListItem => Answer::Token(Token::ListItem(line)),
-        Says::MapKey(p) => Answer::Token(Token::MapKey(line, shifted(place, p))),
-        Says::Value(p) => Answer::Token(Token::Value(line, shifted(place, p))),
-        Says::MultilineHint(p) => Answer::Token(Token::MultilineHint(line, shifted(place, p))),
-        Says::MultilineValue(p) => Answer::Token(Token::MultilineValue(
-            line,
-            indent,
-            shifted(place, p),
-        )),
-        Says::Refused(n) => Answer::Refused(n, line),
+        Says::End => None,
+        Says::Newline => Some(Ok(Token::Newline(line))),
+        Says::Comment(p) => Some(Ok(Token::Comment(line, shifted(place, p)))),
+        Says::Indent => Some(Ok(Token::Indent(line))),
+        Says::Outdent => Some(Ok(Token::Outdent(line, 0))),
+        Says::ListItem => Some(Ok(Token::ListItem(line))),
+        Says::MapKey(p) => Some(Ok(Token::MapKey(line, shifted(place, p)))),
+        Says::Value(p) => Some(Ok(Token::Value(line, shifted(place, p)))),
+        Says::MultilineHint(p) => Some(Ok(Token::MultilineHint(line, shifted(place, p)))),
+        Says::MultilineValue(p) => Some(Ok(Token::MultilineValue(line, indent, shifted(place, p)))),
+        Says::Refused(refusal) => Some(Err(SyntaxError { refusal, line })),
     }
 }
 
-pub(crate) fn held_after(change: Change, indent: Part) -> Held
+pub(crate) fn held_after(change: Change, indent: Part) -> Option<Part>
     ensures { result ≡ held_after change indent }
 {
     match change {
-        Change::Keep => Held::Nothing,
-        Change::Open => Held::Nothing,
-        Change::Close => Held::Nothing,
-        Change::Hold => Held::At(indent),
+        Change::Keep => None,
+        Change::Open => None,
+        Change::Close => None,
+        Change::Hold => Some(indent),
     }
 }
 
@@ -225,6 +211,7 @@ impl State {
     pub const MAX_OPEN: usize = tokenizer_rules::MAX_OPEN;
 
     // The state in which every reading begins.
+    #[tactic(auto, unfolding(crate::specs::Step::fresh))]
     pub fn new() -> State
         ensures { result ≡ fresh }
     {
@@ -236,7 +223,7 @@ impl State {
                 value: false,
                 multiline: false,
             },
-            held: Held::Nothing,
+            held: None,
             indents: [Part { start: 0, end: 0 }; 64],
             depth: 0,
         }
@@ -265,17 +252,11 @@ impl State {
         if State::MAX_OPEN < depth {
             return false;
         }
-        let mut open_fit = true;
-        let mut i = 0;
-        while i < depth {
-            let p = self.indents[i];
-            open_fit = open_fit & part_fits(p, n);
-            i += 1;
-        }
-        open_fit
+        self.indents[..depth].iter().all(|p| part_fits(*p, n))
     }
 
     // The state after a plan, indent being the step's indentation.
+    #[tactic(auto, unfolding(crate::specs::Step::after_plan))]
     fn after(self, indent: Part, p: Plan) -> State
         requires depth_le_max_open { self.depth ≤ max_open }
         requires depth_bound { depth_after p.change self.depth ≤ max_open }
@@ -300,19 +281,25 @@ impl State {
     }
 
     // One step: the answer, and the state for the next call. 12 and 15 give the very state back.
-    pub fn step(self, doc: &[u8]) -> Step
+    pub fn step(self, doc: &[u8]) -> Step<State>
         ensures answer_value { values_of result.answer ≡ values_of (step_of doc.now self).answer }
         ensures state_value { result.state ≡ (step_of doc.now self).state }
     {
         if State::MAX_DOCUMENT < doc.len() {
             return Step {
-                answer: Answer::Refused(12, 0),
+                answer: Some(Err(SyntaxError {
+                    refusal: Refusal::TooLong,
+                    line: 0,
+                })),
                 state: self,
             };
         }
         if !self.fits(doc.len()) {
             return Step {
-                answer: Answer::Refused(15, 0),
+                answer: Some(Err(SyntaxError {
+                    refusal: Refusal::UnfitState,
+                    line: 0,
+                })),
                 state: self,
             };
         }

@@ -4,13 +4,14 @@ ghost use Rattle.tokenizer.specs.Token.{line_of, name_of, padded};
 use text::Part;
 
 // A token with its line and, where it has a text, that part of the document. A multiline value has its indentation's
-// part before its text's, as in the Rust.
+// part before its text's, as in the Rust. An Outdent has the line of the key or item that opened the section, which only the
+// parser knows: the tokenizer's have 0.
 #[derive(Clone, Copy)]
 pub enum Token {
     Newline(usize),
     Comment(usize, Part),
     Indent(usize),
-    Outdent(usize),
+    Outdent(usize, usize),
     ListItem(usize),
     MapKey(usize, Part),
     Value(usize, Part),
@@ -31,19 +32,14 @@ fn name_from(s: &[u8]) -> Name
     ensures { result ≡ padded s.now }
 {
     let mut bytes = [0u8; 16];
-    let mut len = 0;
-    while len < s.len() {
-        if 16 <= len {
-            return Name { bytes, len };
-        }
-        bytes[len] = s[len];
-        len += 1;
-    }
+    let len = s.len().min(16);
+    bytes[..len].copy_from_slice(&s[..len]);
     Name { bytes, len }
 }
 
 impl Token {
     // The line on which the token starts.
+    #[tactic(auto, unfolding(crate::specs::Token::line_of))]
     pub fn line_number(self) -> usize
         ensures { result ≡ line_of self }
     {
@@ -51,7 +47,7 @@ impl Token {
             Token::Newline(line) => line,
             Token::Comment(line, _) => line,
             Token::Indent(line) => line,
-            Token::Outdent(line) => line,
+            Token::Outdent(line, _) => line,
             Token::ListItem(line) => line,
             Token::MapKey(line, _) => line,
             Token::Value(line, _) => line,
@@ -62,6 +58,7 @@ impl Token {
     }
 
     // What the token is called in messages.
+    #[tactic(auto, unfolding(crate::specs::Token::name_of))]
     pub fn name(self) -> Name
         ensures { result ≡ padded (name_of self) }
     {
@@ -69,7 +66,7 @@ impl Token {
             Token::Newline(_) => name_from(b"newline"),
             Token::Comment(_, _) => name_from(b"comment"),
             Token::Indent(_) => name_from(b"indent"),
-            Token::Outdent(_) => name_from(b"outdent"),
+            Token::Outdent(_, _) => name_from(b"outdent"),
             Token::ListItem(_) => name_from(b"list item"),
             Token::MapKey(_, _) => name_from(b"map key"),
             Token::Value(_, _) => name_from(b"value"),

@@ -1,5 +1,8 @@
 -- What each answer of a sound state's step vouches for: End, that only blanks are left and no section is open; a token, that its parts are texts of
 -- the document; a refusal, that it is one of the rules' own, 1, 2 or 3.
+use Rattle.std.specs.Prelude.{Some, None, Ok, Err, Option}
+use Rattle.text.specs.Numbers.{number_of}
+use Rattle.tokenizer.specs.Token.{Answer}
 use Prim.Native.Nat.{ℕ, ◌+◌, ◌≤◌}
 use mathlib.Core.Path.{◌≡◌, sym, ap, ◌∙◌}
 use mathlib.Core.List.{List, [], ◌∷◌}
@@ -19,10 +22,6 @@ use Rattle.tokenizer_rules.specs.Plan.{said, plan_newline, plan_comment, plan_it
 use Rattle.tokenizer.specs.Step.{bytes_of, size_of}
 use Rattle.tokenizer_rules.specs.declared.plan.Says.{Says}
 use Rattle.tokenizer_rules.specs.declared.plan.Says.TheVariants as says
-use Rattle.tokenizer.specs.declared.state.Answer.{Answer}
-use Rattle.tokenizer.specs.declared.state.Answer.TheVariants.{End, Token, Refused}
-use Rattle.tokenizer.specs.declared.state.Held.{Held}
-use Rattle.tokenizer.specs.declared.state.Held.TheVariants.{Nothing, At}
 use Rattle.tokenizer.specs.declared.state.State.{State}
 use Rattle.tokenizer.proofs.Bounds.{rest-size}
 use Rattle.tokenizer_scans.proofs.Quotes.{hint-le}
@@ -31,14 +30,14 @@ use Rattle.tokenizer_claims.proofs.Texts.{text-trimmed, text-take, text-drop, in
 use Rattle.tokenizer_claims.proofs.Sound.{rest_of, indent_at, plan_of, answer_at, StepCases, step-cases, Sound, indent-sound}
 
 abbrev pub Vouched : List ℕ → State → Answer → Type 0
-Vouched d s End = (blanks (rest_of d s) ≡ length (rest_of d s)) × (s.depth ≡ 0)
-Vouched d s (Token t) = TokenFits d t
-Vouched d s (Refused n l) = (1 ≤ n) × (n ≤ 3)
+Vouched d s None = (blanks (rest_of d s) ≡ length (rest_of d s)) × (s.depth ≡ 0)
+Vouched d s (Some (Ok t)) = TokenFits d t
+Vouched d s (Some (Err e)) = (1 ≤ number_of e.refusal) × (number_of e.refusal ≤ 3)
 
 -- nothing but the indentation is left
-blanks-left : (h : Held) (r : List ℕ) → drop (size_of h r) r ≡ [] → blanks r ≡ length r
-blanks-left Nothing r q = let l : length (drop (blanks r) r) ≡ 0 = ap length q in omega (arith, length-drop (blanks r) r, blanks-le r)
-blanks-left (At p) r q = let l : length r ≡ 0 = ap length q in omega (arith, blanks-le r)
+blanks-left : (h : Option Part) (r : List ℕ) → drop (size_of h r) r ≡ [] → blanks r ≡ length r
+blanks-left None r q = let l : length (drop (blanks r) r) ≡ 0 = ap length q in omega (arith, length-drop (blanks r) r, blanks-le r)
+blanks-left (Some p) r q = let l : length r ≡ 0 = ap length q in omega (arith, blanks-le r)
 
 module _ (d : List ℕ) (s : State) (o : Sound d s) where
   -- a text from the front of t, said as f does

@@ -1,4 +1,6 @@
 -- Claims 1 and 2 for the tokenizer, proved: the general facts of Readings, for the steps of sound states.
+use Rattle.std.specs.Prelude.{Some, None, Ok, Err}
+use Rattle.tokenizer.specs.Token.{Answer}
 use Prim.Native.Nat.{ℕ, ◌*◌, ◌≤◌, ◌<◌}
 use mathlib.Core.Path.{◌≡◌, subst}
 use mathlib.Core.List.{List}
@@ -10,8 +12,6 @@ use borrow.Author.Tests.{ltb-true, ltb-false, lt-ltb, le-ltb}
 use Rattle.text.proofs.Cases.{by_bool}
 use Rattle.tokenizer.specs.Step.{step_with, step_rule, step_of, fresh}
 use Rattle.tokenizer.specs.Lists.{is_end, Reads, TokenList, over, read, run, tokens}
-use Rattle.tokenizer.specs.declared.state.Answer.{Answer}
-use Rattle.tokenizer.specs.declared.state.Answer.TheVariants.{End, Token, Refused}
 use Rattle.tokenizer.specs.declared.state.State.{State}
 use Rattle.tokenizer_claims.specs.Claims.{Ends, Lists, Fits, Fit}
 use Rattle.tokenizer_claims.proofs.Sound.{plan_of, step-bounded, Sound, fresh-sound, step-sound, after-sound}
@@ -21,9 +21,9 @@ use Rattle.tokenizer_claims.proofs.Readings.{reads_end, reads-one, last-kept, al
 
 vouched-fits : (d : List ℕ) (s : State) (a : Answer) → Vouched d s a → is_end a ≡ false → Fits d a
 unfolding is_end
-vouched-fits d s End v e = absurd (true≢false e)
-vouched-fits d s (Token t) v e = v
-vouched-fits d s (Refused n l) v e = v
+vouched-fits d s None v e = absurd (true≢false e)
+vouched-fits d s (Some (Ok t)) v e = v
+vouched-fits d s (Some (Err x)) v e = v
 
 module _ (d : List ℕ) (l : length d ≤ 16777216) where
   pub sound-kept : (s : State) → Sound d s → Sound d (step_of d s).state

@@ -1,4 +1,7 @@
 -- The keys of a reading come in the order of their starts: what a step says lies between its place and that of the next step.
+use Rattle.std.specs.Prelude.{Some, None, Ok, Err}
+use Rattle.tokenizer.specs.Token.{Answer}
+use Rattle.text.specs.declared.refusals.SyntaxError.{SyntaxError}
 use Prim.Native.Nat.{ℕ, ◌+◌, ◌≤◌}
 use mathlib.Core.Path.{◌≡◌}
 use mathlib.Core.List.{List, [], ◌∷◌}
@@ -12,8 +15,6 @@ use Rattle.tokenizer_rules.specs.declared.plan.Says.{Says}
 use Rattle.tokenizer_rules.specs.declared.plan.Says.TheVariants as says
 use Rattle.tokenizer.specs.declared.token.Token.{Token as ReadToken}
 use Rattle.tokenizer.specs.declared.token.Token.TheVariants as token
-use Rattle.tokenizer.specs.declared.state.Answer.{Answer}
-use Rattle.tokenizer.specs.declared.state.Answer.TheVariants.{End, Token, Refused}
 use Rattle.tokenizer.specs.declared.state.State.{State}
 use Rattle.tokenizer_claims.proofs.Sound.{indent_at, plan_of, step-bounded, Sound, step-sound}
 use Rattle.tokenizer_claims.proofs.Claimed.{sound-kept}
@@ -23,7 +24,7 @@ abbrev pub reached : ℕ → ReadToken → ℕ
 reached n (token.Newline l) = n
 reached n (token.Comment l p) = n
 reached n (token.Indent l) = n
-reached n (token.Outdent l) = n
+reached n (token.Outdent l o) = n
 reached n (token.ListItem l) = n
 reached n (token.MapKey l p) = p.start
 reached n (token.Value l p) = n
@@ -34,13 +35,13 @@ reached n (token.NoValue l) = n
 -- up to a refusal, each key starts at n or after, and not before the last one
 pub data Placed : ℕ → List Answer → Type 0 where
   none : {n : ℕ} → Placed n []
-  refused : {n m l : ℕ} {as₁ : List Answer} → Placed n (Refused m l ∷ as₁)
-  more : {n : ℕ} {t : ReadToken} {as₁ : List Answer} → n ≤ reached n t → Placed (reached n t) as₁ → Placed n (Token t ∷ as₁)
+  refused : {n : ℕ} {e : SyntaxError} {as₁ : List Answer} → Placed n (Some (Err e) ∷ as₁)
+  more : {n : ℕ} {t : ReadToken} {as₁ : List Answer} → n ≤ reached n t → Placed (reached n t) as₁ → Placed n (Some (Ok t) ∷ as₁)
 
 abbrev Between : ℕ → Answer → ℕ → Type 0
-Between n End k = Unit {0}
-Between n (Token t) k = (n ≤ reached n t) × (reached n t ≤ k)
-Between n (Refused m l) k = Unit {0}
+Between n None k = Unit {0}
+Between n (Some (Ok t)) k = (n ≤ reached n t) × (reached n t ≤ k)
+Between n (Some (Err e)) k = Unit {0}
 
 -- what is said at the place m, j bytes being passed
 said-between : (n : ℕ) (x : Says) (l m j : ℕ) (i : Part) → n ≤ m → reach x ≤ j → Between n (answer_of x l m i) (m + j)
@@ -64,9 +65,9 @@ module _ (d : List ℕ) (l : length d ≤ 16777216) where
 
   placed : {n k : ℕ} {as₁ : List Answer} (a : Answer) → is_end a ≡ false → Between n a k → ((m : ℕ) → m ≤ k → Placed m as₁) → Placed n (a ∷ as₁)
   unfolding is_end
-  placed End f b h = absurd (true≢false f)
-  placed (Token t) f b h = more b.0 (h _ b.1)
-  placed (Refused m c) f b h = refused
+  placed None f b h = absurd (true≢false f)
+  placed (Some (Ok t)) f b h = more b.0 (h _ b.1)
+  placed (Some (Err e)) f b h = refused
 
   pub reads-placed : {s u : State} {as₁ : List Answer} → Reads d s as₁ u → Sound d s → (n : ℕ) → n ≤ s.place → Placed n as₁
   reads-placed (ends e) o n h = none

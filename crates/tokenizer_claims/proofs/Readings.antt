@@ -1,5 +1,7 @@
 -- Readings in general: a state has one; what each step keeps holds to its end; and where each step lowers a number unless it
 -- says End, that number bounds the answers, and the list that is computed in so many steps is read.
+use Rattle.std.specs.Prelude.{Some, None, Ok, Err}
+use Rattle.tokenizer.specs.Token.{Answer}
 use Prim.Native.Nat.{ℕ, zero, suc, ◌≤◌, ◌<◌}
 use mathlib.Core.Path.{◌≡◌, refl, sym, ap, ◌∙◌, subst}
 use mathlib.Core.List.{List, ◌∷◌}
@@ -9,25 +11,23 @@ use lib.ListN.{length}
 use Rattle.text.proofs.Cases.{by_bool}
 use Rattle.tokenizer.specs.Step.{step_of}
 use Rattle.tokenizer.specs.Lists.{is_end, Reads, ends, says, run}
-use Rattle.tokenizer.specs.declared.state.Answer.{Answer}
-use Rattle.tokenizer.specs.declared.state.Answer.TheVariants.{End, Token, Refused}
 use Rattle.tokenizer.specs.declared.state.State.{State}
-use Rattle.tokenizer.specs.declared.state.Step.{Step}
 use Rattle.tokenizer_claims.specs.Claims.{All}
+use Rattle.tokenizer.specs.declared.state.Step.{Step}
 
-is-end : (a : Answer) → is_end a ≡ true → a ≡ End
+is-end : (a : Answer) → is_end a ≡ true → a ≡ None
 unfolding is_end
-is-end End e = refl
-is-end (Token t) e = absurd (false≢true e)
-is-end (Refused n l) e = absurd (false≢true e)
+is-end None e = refl
+is-end (Some (Ok t)) e = absurd (false≢true e)
+is-end (Some (Err x)) e = absurd (false≢true e)
 
 -- End comes last
-pub reads_end : {d : List ℕ} {s u : State} {l : List Answer} → Reads d s l u → (step_of d u).answer ≡ End
+pub reads_end : {d : List ℕ} {s u : State} {l : List Answer} → Reads d s l u → (step_of d u).answer ≡ None
 reads_end (ends e) = e
 reads_end (says q f r) = reads_end r
 
 -- after End nothing is said
-no_more : {x : Step} {a : Answer} {t : State} → x.answer ≡ End → x ≡ record { answer = a; state = t } → is_end a ≡ false → ⊥
+no_more : {x : Step State} {a : Answer} {t : State} → x.answer ≡ None → x ≡ record { answer = a; state = t } → is_end a ≡ false → ⊥
 unfolding is_end
 no_more e q f = false≢true (sym f ∙ ap is_end (rw q at e))
 

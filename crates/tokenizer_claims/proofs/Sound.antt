@@ -1,5 +1,7 @@
 -- The states of a fresh reading: fit, and every indentation in them a part of blanks. A plan keeps to such states where it
 -- keeps to the rest and opens no 65th section.
+use Rattle.tokenizer.specs.Token.{Answer}
+use Rattle.std.specs.Prelude.{Option, Some, None}
 use Prim.Native.Nat.{ℕ, zero, suc, ◌+◌, ◌≤◌, ◌<◌}
 use mathlib.Core.Path.{◌≡◌, refl}
 use mathlib.Core.List.{List, [], ◌∷◌}
@@ -31,9 +33,6 @@ use Rattle.tokenizer_rules.specs.declared.plan.Change.{Change}
 use Rattle.tokenizer_rules.specs.declared.plan.Change.TheVariants.{Keep, Open, Close, Hold}
 use Rattle.tokenizer_rules.specs.declared.plan.Plan.{Plan}
 use Rattle.tokenizer_rules.specs.declared.plan.Says.{Says}
-use Rattle.tokenizer.specs.declared.state.Answer.{Answer}
-use Rattle.tokenizer.specs.declared.state.Held.{Held}
-use Rattle.tokenizer.specs.declared.state.Held.TheVariants.{Nothing, At}
 use Rattle.tokenizer.specs.declared.state.State.{State}
 use Rattle.tokenizer_rules.proofs.PlanCases.{Cases, plan-cases}
 use Rattle.tokenizer.proofs.Bounds.{Bounded, plan-bounded}
@@ -67,9 +66,9 @@ pub step-bounded : (d : List ℕ) (s : State) → Bounded (length (rest_of d s))
 unfolding plan_with
 step-bounded d s = plan-bounded _ _ _ _ _ _
 
-abbrev pub HeldSound : List ℕ → Held → Type 0
-HeldSound d Nothing = Unit {0}
-HeldSound d (At p) = Indentation d p
+abbrev pub HeldSound : List ℕ → Option Part → Type 0
+HeldSound d None = Unit {0}
+HeldSound d (Some p) = Indentation d p
 
 pub record Sound (d : List ℕ) (s : State) : Type 0 where
   pub place : s.place ≤ length d
@@ -100,9 +99,9 @@ fresh-sound d = record {
 part-fit : (d : List ℕ) (p : Part) → Within d p → fit_part (length d) p ≡ true
 part-fit d p w = rw (le-leb p.start p.end w.starts, le-leb p.end (length d) w.ends)
 
-held-fit : (d : List ℕ) (h : Held) → HeldSound d h → fit_held (length d) h ≡ true
-held-fit d Nothing x = refl
-held-fit d (At p) x = part-fit d p x.within
+held-fit : (d : List ℕ) (h : Option Part) → HeldSound d h → fit_held (length d) h ≡ true
+held-fit d None x = refl
+held-fit d (Some p) x = part-fit d p x.within
 
 open-fit : (d : List ℕ) (is : List Part) → ((j : ℕ) → Indentation d (get_or is j no_part)) → (n : ℕ) → fit_open (length d) is n ≡ true
 unfolding fit_open
@@ -131,9 +130,9 @@ step-sound d s l o = rw (le-ltb 16777216 (length d) l, sound-fit d s o)
 pub indent-sound : (d : List ℕ) (s : State) → Sound d s → Indentation d (indent_at d s)
 indent-sound d s o = at s.held o.held
   where
-    at : (h : Held) → HeldSound d h → Indentation d (indent_of h s.place (rest_of d s))
-    at Nothing x = indentation-at d s.place o.place
-    at (At p) x = x
+    at : (h : Option Part) → HeldSound d h → Indentation d (indent_of h s.place (rest_of d s))
+    at None x = indentation-at d s.place o.place
+    at (Some p) x = x
 
 held_after-sound : (d : List ℕ) (c : Change) (i : Part) → Indentation d i → HeldSound d (held_after c i)
 held_after-sound d Keep i x = tt

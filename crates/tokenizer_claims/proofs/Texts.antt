@@ -5,17 +5,18 @@ use mathlib.Core.Path.{◌≡◌, refl, sym, ap, ◌∙◌, subst}
 use mathlib.Core.List.{List, [], ◌∷◌, ◌++◌}
 use mathlib.Core.Bool.{true}
 use native.Mathlib.Nat.{add-sub_cancel_left}
+use native.Mathlib.Numerals.{one-add}
 use native.Mathlib.Omega.{arith}
 use lib.ListN.{length, take, drop, length-append, length-drop, take-append-drop}
 use lib.Seq.{take-append-le, drop-append-le, drop-drop, drop-length}
-use Rattle.text.specs.Bytes.{count_while, shifted_by}
+use Rattle.text.specs.Bytes.{shifted_by}
 use Rattle.text.specs.Trimming.{dropped, trimmed}
 use Rattle.utf8.specs.Utf8.{owes, utf8}
 use Rattle.text.specs.declared.bytes.Part.{Part}
 use Rattle.text.specs.declared.trimming.Dropped.{Dropped}
 use Rattle.text.specs.declared.trimming.Dropped.TheVariants.{Blanks}
 use Rattle.text.proofs.Cases.{by_bool}
-use Rattle.text.proofs.Scan.{count-le}
+use Rattle.std.proofs.lemmas.List.Sums.{prefix_len-le-length}
 use Rattle.text.proofs.Trimmed.{trimmed-le}
 use Rattle.utf8.proofs.Trimmed.{utf8-start, dropped-ascii, trimmed-utf8}
 use Rattle.tokenizer_scans.specs.Scans.{blanks}
@@ -65,17 +66,17 @@ indentation-text d p x = record {
 }
 
 pub no-indentation : (d : List ℕ) → Indentation d no_part
-unfolding blanks count_while
+unfolding blanks
 no-indentation d = record { within = omega arith; only_blanks = refl }
 
 blanks-only : (s : List ℕ) → blanks (take (blanks s) s) ≡ length (take (blanks s) s)
-unfolding blanks count_while
+unfolding blanks
 blanks-only [] = refl
-blanks-only (b ∷ r) = by_bool (dropped Blanks b) (λ e. rw e (rw e (ap suc (blanks-only r)))) (λ e. rw e)
+blanks-only (b ∷ r) = by_bool (dropped Blanks b) (λ e. rw (e, one-add) (rw (e, one-add) (ap suc (blanks-only r)))) (λ e. rw e)
 
 pub blanks-le : (s : List ℕ) → blanks s ≤ length s
 unfolding blanks
-blanks-le s = count-le (dropped Blanks) s
+blanks-le s = prefix_len-le-length (dropped Blanks) s
 
 -- the blanks at a place
 pub indentation-at : (d : List ℕ) (n : ℕ) → n ≤ length d → Indentation d (record { start = n; end = n + blanks (drop n d) })

@@ -1,6 +1,7 @@
 -- What a reading has left to spend. Each step lowers it, unless it says End, so a reading ends, after at most as many answers.
 -- The held indentation counts because a step may read it again, an open section because it has to be closed, the value mark
 -- because refusal 2 clears it and passes nothing, the multiline mark because it pays for the empty key before a `;`.
+use Rattle.std.specs.Prelude.{Option, Some, None}
 use Prim.Native.Nat.{ℕ, zero, suc, ◌+◌, ◌*◌, ◌-◌, ◌≤◌, ◌<◌}
 use mathlib.Core.Path.{◌≡◌, sym, ◌∙◌}
 use mathlib.Core.List.{List, [], ◌∷◌}
@@ -9,7 +10,7 @@ use native.Mathlib.Omega.{arith}
 use lib.ListN.{length, take, drop, length-take, length-drop}
 use lib.Dec.{eqb}
 use borrow.Author.Tests.{not-false}
-use Rattle.text.specs.Bytes.{is_break, count_while, line_end}
+use Rattle.text.specs.Bytes.{is_break, line_end}
 use Rattle.text.specs.declared.bytes.Part.{Part}
 use Rattle.text.specs.declared.trimming.Dropped.TheVariants.{Blanks}
 use Rattle.text.proofs.Cases.{by_bool, and_left, and_right}
@@ -18,12 +19,8 @@ use Rattle.tokenizer_rules.specs.Plan.{plan_newline, plan_comment, plan_item, pl
 use Rattle.tokenizer.specs.Step.{bytes_of, indent_of, size_of, inner_of, after_plan}
 use Rattle.tokenizer.specs.Lists.{is_end}
 use Rattle.tokenizer_scans.specs.declared.readers.Relation.TheVariants.{Deeper, Other}
-use Rattle.tokenizer_scans.specs.declared.readers.Text.{Text}
-use Rattle.tokenizer_scans.specs.declared.readers.Text.TheVariants.{Good, Bad}
 use Rattle.tokenizer_rules.specs.declared.plan.Marks.{Marks}
 use Rattle.tokenizer_rules.specs.declared.plan.Plan.{Plan}
-use Rattle.tokenizer.specs.declared.state.Held.{Held}
-use Rattle.tokenizer.specs.declared.state.Held.TheVariants.{Nothing, At}
 use Rattle.tokenizer.specs.declared.state.State.{State}
 use Rattle.tokenizer_rules.proofs.PlanCases.{Content, Entry, later, first}
 use Rattle.text.proofs.Front.{break-pos}
@@ -35,18 +32,18 @@ abbrev pub count : Bool → ℕ
 count true = 1
 count false = 0
 
-abbrev pub held_size : Held → ℕ
-held_size Nothing = 0
-held_size (At p) = p.end - p.start
+abbrev pub held_size : Option Part → ℕ
+held_size None = 0
+held_size (Some p) = p.end - p.start
 
 unfoldable pub weight : List ℕ → State → ℕ
 weight d s =
     2 * (length d - s.place + held_size s.held) + s.depth + count s.marks.value + 2 * count s.marks.multiline
 
 -- the indentation is held, or stands at the place
-held-size : (h : Held) (n : ℕ) (r : List ℕ) → size_of h r + held_size h ≡ (indent_of h n r).end - (indent_of h n r).start
-held-size Nothing n r = omega arith
-held-size (At p) n r = omega arith
+held-size : (h : Option Part) (n : ℕ) (r : List ℕ) → size_of h r + held_size h ≡ (indent_of h n r).end - (indent_of h n r).start
+held-size None n r = omega arith
+held-size (Some p) n r = omega arith
 
 -- no empty indentation is deeper
 pub deeper-pos : (s t : List ℕ) → relation_of s t ≡ Deeper → 1 ≤ length t
@@ -63,12 +60,11 @@ other-pos d is zero [] e = let z : ◌≡◌ {A = ℕ} 0 1 = cc in absurd (omega
 other-pos d is zero (b ∷ t) e = let z : ◌≡◌ {A = ℕ} 0 1 = cc in absurd (omega arith)
 
 line-pos : (b : ℕ) (r : List ℕ) → is_break b ≡ false → 1 ≤ line_end (b ∷ r)
-unfolding count_while
 line-pos b r e = rw e (omega arith)
 
 -- a text that begins with what does not end it has a byte
 text-pos : (also b : ℕ) (r : List ℕ) → stops also b ≡ false → 1 ≤ text_end also (b ∷ r)
-unfolding text_end quotes_end plain_end count_while
+unfolding text_end quotes_end plain_end
 text-pos also b r e = by_bool (eqb b 34) (λ t. rw t (omega arith)) (λ t. rw (t, e) (omega arith))
 
 -- The marks
@@ -81,9 +77,9 @@ count_set : (t : Bool) → t ≡ true → count t ≡ 1
 count_set t e = rw e
 
 -- a hint leaves no value mark
-hint-le : (t : Text) (m : Marks) → count (hint_marks t (with_value false m)).value + 2 * count (hint_marks t (with_value false m)).multiline ≤ 2
-hint-le (Good p) m = omega arith
-hint-le Bad m = omega (arith, count-le m.multiline)
+hint-le : (t : Option Part) (m : Marks) → count (hint_marks t (with_value false m)).value + 2 * count (hint_marks t (with_value false m)).multiline ≤ 2
+hint-le (Some p) m = omega arith
+hint-le None m = omega (arith, count-le m.multiline)
 
 entry-le : {m n : Marks} {inner indent : List ℕ} → Entry m inner indent n → count n.multiline ≤ count m.multiline
 entry-le (later e) = omega arith

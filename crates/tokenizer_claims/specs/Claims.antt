@@ -1,7 +1,8 @@
 -- Claims about the law: 1 and 2 for the tokenizer, over the lists of its rules. proofs/Claimed proves them.
-use Rattle.std.specs.Prelude.{ℕ, ◌*◌, ◌≤◌, ◌≡◌, List, [], ◌∷◌, true, length, drop}
+use Rattle.std.specs.Prelude.{Some, None, Ok, Err, ℕ, ◌*◌, ◌≤◌, ◌≡◌, List, [], ◌∷◌, true, length, drop}
+use Rattle.tokenizer.specs.Token.{Answer}
 use Rattle.utf8.specs.Utf8.{utf8}
-use Rattle.text.specs.Numbers.{max_document, invalid_utf8, too_many_open}
+use Rattle.text.specs.Numbers.{number_of, max_document, invalid_utf8, too_many_open}
 use Rattle.text.specs.declared.bytes.Part.{Part}
 use Rattle.tokenizer_scans.specs.Scans.{blanks}
 use Rattle.tokenizer.specs.Step.{bytes_of, fresh}
@@ -19,8 +20,6 @@ use Rattle.tokenizer.specs.declared.token.Token.TheVariants.{
   MultilineValue,
   NoValue,
 }
-use Rattle.tokenizer.specs.declared.state.Answer.{Answer}
-use Rattle.tokenizer.specs.declared.state.Answer.TheVariants as answer
 use Rattle.tokenizer.specs.declared.state.State.{State}
 
 -- Claim 1, Ends. The reading of a document of n bytes within the limit: at most 2n answers, then End; only blanks remain from the
@@ -58,7 +57,7 @@ abbrev pub PartsFit : Type 0 → List ℕ → Token → Type 0
 PartsFit N d (Newline l) = Unit {0}
 PartsFit N d (Comment l p) = Text d p
 PartsFit N d (Indent l) = Unit {0}
-PartsFit N d (Outdent l) = Unit {0}
+PartsFit N d (Outdent l o) = Unit {0}
 PartsFit N d (ListItem l) = Unit {0}
 PartsFit N d (MapKey l p) = Text d p
 PartsFit N d (Value l p) = Text d p
@@ -71,9 +70,9 @@ TokenFits d t = PartsFit ⊥ d t
 
 -- an answer of a reading: a token whose parts lie within the document and are UTF-8, or a refusal 1, 2 or 3
 abbrev pub Fits : List ℕ → Answer → Type 0
-Fits d answer.End = ⊥
-Fits d (answer.Token t) = TokenFits d t
-Fits d (answer.Refused n l) = (invalid_utf8 ≤ n) × (n ≤ too_many_open)
+Fits d None = ⊥
+Fits d (Some (Ok t)) = TokenFits d t
+Fits d (Some (Err e)) = (invalid_utf8 ≤ number_of e.refusal) × (number_of e.refusal ≤ too_many_open)
 
 abbrev pub All : (Answer → Type 0) → List Answer → Type 0
 All P [] = Unit {0}

@@ -14,7 +14,7 @@ unfolding token_values
 kinds (token.Newline l) = (omega arith, omega arith)
 kinds (token.Comment l p) = (omega arith, omega arith)
 kinds (token.Indent l) = (omega arith, omega arith)
-kinds (token.Outdent l) = (omega arith, omega arith)
+kinds (token.Outdent l o) = (omega arith, omega arith)
 kinds (token.ListItem l) = (omega arith, omega arith)
 kinds (token.MapKey l p) = (omega arith, omega arith)
 kinds (token.Value l p) = (omega arith, omega arith)
@@ -27,7 +27,7 @@ unfolding token_in token_by token_values
 tokens-back (token.Newline l) r = refl
 tokens-back (token.Comment l p) r = refl
 tokens-back (token.Indent l) r = refl
-tokens-back (token.Outdent l) r = refl
+tokens-back (token.Outdent l o) r = refl
 tokens-back (token.ListItem l) r = refl
 tokens-back (token.MapKey l p) r = refl
 tokens-back (token.Value l p) r = refl

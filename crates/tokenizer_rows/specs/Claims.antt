@@ -1,14 +1,14 @@
 -- Claims about the rows: a token is read back from its row, distinct answers have distinct rows, and the words of a row
 -- stand in this order, without which two halves that are wrong alike would do. proofs/Claimed proves them, and
 -- proofs/Back that a token is read back.
-use Rattle.std.specs.Prelude.{ℕ, ◌≡◌, List, [], ◌∷◌, ◌++◌, map}
+use Rattle.std.specs.Prelude.{Some, Err, ℕ, ◌≡◌, List, [], ◌∷◌, ◌++◌, map}
+use Rattle.tokenizer.specs.Token.{Answer, token_values, values_of}
+use Rattle.text.specs.Numbers.{error}
+use Rattle.text.specs.declared.refusals.Refusal.TheVariants.{TooManyOpen}
 use Rattle.text.specs.Bytes.{part}
-use Rattle.tokenizer.specs.Token.{token_values, values_of}
 use Rattle.tokenizer.specs.Step.{no_part}
 use Rattle.tokenizer.specs.declared.token.Token.{Token}
 use Rattle.tokenizer.specs.declared.token.Token.TheVariants as token
-use Rattle.tokenizer.specs.declared.state.Answer.{Answer}
-use Rattle.tokenizer.specs.declared.state.Answer.TheVariants as answer
 use Rattle.tokenizer_rows.specs.Rows.{row_of, rows_of, token_in}
 
 -- a token is read back from its row
@@ -30,7 +30,7 @@ tokens_by_kind =
     token.Newline 1
     ∷ token.Comment 1 no_part
     ∷ token.Indent 1
-    ∷ token.Outdent 1
+    ∷ token.Outdent 1 0
     ∷ token.ListItem 1
     ∷ token.MapKey 1 no_part
     ∷ token.Value 1 no_part
@@ -41,5 +41,5 @@ tokens_by_kind =
 
 pub record RowLayout : Type 0 where
   pub row : row_of (token_values (token.MultilineValue 5 (part 11 13) (part 17 29))) ≡ 9 ∷ 5 ∷ 17 ∷ 29 ∷ 11 ∷ 13 ∷ 0 ∷ []
-  pub refusal : row_of (values_of (answer.Refused 3 5)) ≡ 259 ∷ 5 ∷ 0 ∷ 0 ∷ 0 ∷ 0 ∷ 0 ∷ []
+  pub refusal : row_of (values_of (Some (Err (error TooManyOpen 5)))) ≡ 259 ∷ 5 ∷ 0 ∷ 0 ∷ 0 ∷ 0 ∷ 0 ∷ []
   pub kinds : map (λ t. (token_values t).number) tokens_by_kind ≡ 1 ∷ 2 ∷ 3 ∷ 4 ∷ 5 ∷ 6 ∷ 7 ∷ 8 ∷ 9 ∷ 10 ∷ []

@@ -20,6 +20,7 @@ fn worded_row(number: usize, line: usize, p: Part) -> [usize; 7]
 }
 
 // The row of a token.
+#[tactic(auto, unfolding(tokenizer::specs::Token::token_values))]
 pub fn token_row(t: Token) -> [usize; 7]
     ensures { result ≡ row_of (token_values t) }
 {
@@ -27,7 +28,7 @@ pub fn token_row(t: Token) -> [usize; 7]
         Token::Newline(line) => bare_row(1, line),
         Token::Comment(line, p) => worded_row(2, line, p),
         Token::Indent(line) => bare_row(3, line),
-        Token::Outdent(line) => bare_row(4, line),
+        Token::Outdent(line, opened) => [4, line, 0, 0, 0, 0, opened],
         Token::ListItem(line) => bare_row(5, line),
         Token::MapKey(line, p) => worded_row(6, line, p),
         Token::Value(line, p) => worded_row(7, line, p),

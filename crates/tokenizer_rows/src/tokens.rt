@@ -5,14 +5,15 @@ ghost use Rattle.tokenizer_rows.specs.Rows.{token_by, token_in};
 use text::Part;
 use tokenizer::Token;
 
-fn token_by(number: usize, line: usize, p: Part, indent: Part) -> Token
-    ensures { result ≡ token_by number line p indent }
+#[tactic(auto, unfolding(crate::specs::Rows::token_by))]
+fn token_by(number: usize, line: usize, p: Part, indent: Part, opened: usize) -> Token
+    ensures { result ≡ token_by number line p indent opened }
 {
     match number {
         1 => Token::Newline(line),
         2 => Token::Comment(line, p),
         3 => Token::Indent(line),
-        4 => Token::Outdent(line),
+        4 => Token::Outdent(line, opened),
         5 => Token::ListItem(line),
         6 => Token::MapKey(line, p),
         7 => Token::Value(line, p),
@@ -26,10 +27,11 @@ fn token_by(number: usize, line: usize, p: Part, indent: Part) -> Token
 pub fn word(w: &[usize], i: usize) -> usize
     ensures { result ≡ get_or w.now i 0 }
 {
-    if i < w.len() { w[i] } else { 0 }
+    w.get(i).copied().unwrap_or(0)
 }
 
 // The token of a row; a word that it lacks is 0.
+#[tactic(auto, unfolding(crate::specs::Rows::token_in))]
 pub fn token_in(w: &[usize]) -> Token
     ensures { result ≡ token_in w.now }
 {
@@ -41,5 +43,5 @@ pub fn token_in(w: &[usize]) -> Token
         start: word(w, 4),
         end: word(w, 5),
     };
-    token_by(word(w, 0), word(w, 1), p, indent)
+    token_by(word(w, 0), word(w, 1), p, indent, word(w, 6))
 }

@@ -4,7 +4,8 @@ use mathlib.Core.Path.{◌≡◌, refl}
 use mathlib.Core.List.{List, []}
 use mathlib.Core.Bool.{Bool, true, false}
 use Rattle.text.specs.Ascii.{ascii}
-use Rattle.text.specs.Bytes.{is_blank, is_break, break_size, count_while, starts_with, part}
+use Rattle.text.specs.Bytes.{is_blank, is_break, break_size, starts_with, part}
+use Rattle.text.specs.declared.refusals.Refusal.TheVariants.{CharactersAfterQuotes, TooManyOpen}
 use Rattle.text.specs.Trimming.{dropped, kept_end, trimmed}
 use Rattle.utf8.specs.Utf8.{within, lead_of, owes, utf8}
 use Rattle.tokenizer_scans.specs.Scans.{
@@ -70,7 +71,7 @@ plan s n l m c = record { says = s; pass = n; lines = l; marks = m; change = c }
 
 -- what computing a plan unfolds; the plan at the line's start, of depth open sections, with the innermost's and this indentation
 at : Marks → ℕ → List ℕ → List ℕ → List ℕ → ℕ → Plan
-unfolding is_blank is_break break_size count_while starts_with dropped kept_end trimmed within lead_of owes utf8 relation_of stops plain_end closing quotes_end text_end checked_of begins_hint eq_size piece is_void belongs_to multiline_end breaks_after ends_in_break line_count lines_of plan_newline plan_end plan_comment plan_item plan_key plan_plain plan_hint plan_value plan_entry plan_multiline plan_open plan_outdent plan_indented plan_on plan_at
+unfolding is_blank is_break break_size starts_with dropped kept_end trimmed within lead_of owes utf8 relation_of stops plain_end closing quotes_end text_end checked_of begins_hint eq_size piece is_void belongs_to multiline_end breaks_after ends_in_break line_count lines_of plan_newline plan_end plan_comment plan_item plan_key plan_plain plan_hint plan_value plan_entry plan_multiline plan_open plan_outdent plan_indented plan_on plan_at
 at m depth inner indent rest k = plan_at m depth inner indent rest k
 
 -- Rule 2: a CR LF is passed and adds a line
@@ -97,7 +98,7 @@ opens : plan_at (marks true false false) 0 [] (ascii " ") (ascii " a") 1 ≡ pla
 unfolding at
 opens = refl
 
-section-65 : plan_at (marks true false false) 64 (ascii " ") (ascii "  ") (ascii "  a\nb") 2 ≡ plan (Refused 3) 3 0 (marks false false false) Keep
+section-65 : plan_at (marks true false false) 64 (ascii " ") (ascii "  ") (ascii "  a\nb") 2 ≡ plan (Refused TooManyOpen) 3 0 (marks false false false) Keep
 unfolding at
 section-65 = refl
 
@@ -115,7 +116,7 @@ unfolding at
 key = refl
 
 -- its value: a fourth quote is 2, with the place unmoved and the value mark cleared
-four_quotes : plan_at (marks false true false) 0 [] [] (ascii " \"\"\"\"b") 1 ≡ plan (Refused 2) 0 0 (marks false false false) Keep
+four_quotes : plan_at (marks false true false) 0 [] [] (ascii " \"\"\"\"b") 1 ≡ plan (Refused CharactersAfterQuotes) 0 0 (marks false false false) Keep
 unfolding at
 four_quotes = refl
 

@@ -8,6 +8,7 @@ use lib.ListN.{take, drop}
 use lib.Dec.{eqb, ltb}
 use borrow.Author.Tests.{ltb-true, ltb-false}
 use Rattle.text.specs.Bytes.{is_break, line_end, starts_with, shifted_by}
+use Rattle.text.specs.declared.refusals.Refusal.TheVariants.{CharactersAfterQuotes, TooManyOpen}
 use Rattle.text.specs.declared.trimming.Dropped.TheVariants.{Blanks}
 use Rattle.text.proofs.Cases.{on-cond}
 use Rattle.tokenizer_scans.specs.Scans.{relation_of, plain_end, checked_of, begins_hint}
@@ -54,12 +55,12 @@ pub record Leaves (m : Marks) (depth : ℕ) (inner indent rest : List ℕ) (k b 
   pub opens : Content m b → m.indent ≡ true → relation_of inner indent ≡ Deeper → m.multiline ≡ false → depth < 64
       → G (plan_indent (cleared m) k)
   pub full : Content m b → m.indent ≡ true → relation_of inner indent ≡ Deeper → m.multiline ≡ false → 64 ≤ depth
-      → G (keeps (Refused 3) (k + line_end (b ∷ r)) (cleared m))
+      → G (keeps (Refused TooManyOpen) (k + line_end (b ∷ r)) (cleared m))
   pub outdent : Content m b → m.indent ≡ true → relation_of inner indent ≡ Other → G (plan_outdent (cleared m) k)
   pub item : {n : Marks} → Content m b → Entry m inner indent n → m.value ≡ false → eqb b 61 ≡ true → G (plan_item n k)
   pub key : {n : Marks} → Content m b → Entry m inner indent n → m.value ≡ false → eqb b 61 ≡ false → G (plan_key n k (b ∷ r))
   pub quotes : {n : Marks} → Content m b → Entry m inner indent n → m.value ≡ true → begins_hint (b ∷ r) ≡ true
-      → starts_with (34 ∷ []) (drop 3 (b ∷ r)) ≡ true → G (keeps (Refused 2) 0 (with_value false n))
+      → starts_with (34 ∷ []) (drop 3 (b ∷ r)) ≡ true → G (keeps (Refused CharactersAfterQuotes) 0 (with_value false n))
   pub hint : {n : Marks} → Content m b → Entry m inner indent n → m.value ≡ true → begins_hint (b ∷ r) ≡ true
       → starts_with (34 ∷ []) (drop 3 (b ∷ r)) ≡ false → G (plan_hinted (with_value false n) k (drop 3 (b ∷ r)))
   pub plain : {n : Marks} → Content m b → Entry m inner indent n → m.value ≡ true → begins_hint (b ∷ r) ≡ false

@@ -1,18 +1,17 @@
 -- Law: document 01, 'Tokenizer': one step, rule by rule, as a plan that is counted from the step's place and knows
 -- neither place nor line. Throughout, m are the marks, k is the size of the indentation at the place (0 where it was
 -- held), rest the document from the place on, w the rest after the indentation.
-use Rattle.std.specs.Prelude.{ℕ, ◌+◌, List, [], ◌∷◌, Bool, true, false, cond, not, ◌&&◌, take, drop, eqb, ltb}
+use Rattle.std.specs.Prelude.{ℕ, ◌+◌, Option, Some, None, List, [], ◌∷◌, Bool, true, false, cond, not, ◌&&◌, take, drop, eqb, ltb}
 use Prim.Native.Char.{code as byte}
 use Rattle.text.specs.Ascii.{ascii}
 use Rattle.text.specs.Bytes.{is_break, break_size, line_end, starts_with, shifted_by}
-use Rattle.text.specs.Numbers.{max_open, invalid_utf8, characters_after_quotes, too_many_open}
+use Rattle.text.specs.Numbers.{max_open}
 use Rattle.text.specs.declared.bytes.Part.{Part}
+use Rattle.text.specs.declared.refusals.Refusal.TheVariants.{InvalidUtf8, CharactersAfterQuotes, TooManyOpen}
 use Rattle.text.specs.declared.trimming.Dropped.TheVariants.{Blanks, BlanksAndBreaks}
 use Rattle.tokenizer_scans.specs.Scans.{relation_of, plain_end, text_end, checked_of, begins_hint, eq_size, lines_of}
 use Rattle.tokenizer_scans.specs.declared.readers.Relation.{Relation}
 use Rattle.tokenizer_scans.specs.declared.readers.Relation.TheVariants.{Equal, Deeper, Other}
-use Rattle.tokenizer_scans.specs.declared.readers.Text.{Text}
-use Rattle.tokenizer_scans.specs.declared.readers.Text.TheVariants.{Good, Bad}
 use Rattle.tokenizer_rules.specs.declared.plan.Marks.{Marks}
 use Rattle.tokenizer_rules.specs.declared.plan.Says.{Says}
 use Rattle.tokenizer_rules.specs.declared.plan.Says.TheVariants.{
@@ -35,10 +34,10 @@ use Rattle.tokenizer_rules.specs.declared.plan.Plan.{Plan}
 abbrev pub keeps : Says → ℕ → Marks → Plan
 keeps s n m = record { says = s; pass = n; lines = 0; marks = m; change = Keep }
 
--- a text that was read, as what a step says: 1 where it is not UTF-8
-abbrev pub said : (Part → Says) → Text → Says
-said f (Good p) = f p
-said f Bad = Refused invalid_utf8
+-- a text that was read, as what a step says: refused where it is not UTF-8
+abbrev pub said : (Part → Says) → Option Part → Says
+said f (Some p) = f p
+said f None = Refused InvalidUtf8
 
 abbrev pub with_value : Bool → Marks → Marks
 with_value v m = record { indent = m.indent; value = v; multiline = m.multiline }
@@ -85,16 +84,16 @@ plan_plain m k w =
     keeps (said (λ p. Value (shifted_by k p)) (checked_of Blanks (take (text_end (byte ";") w) w))) (k + text_end (byte ";") w) m
 
 -- the multiline mark is set where the hint is UTF-8
-abbrev pub hint_marks : Text → Marks → Marks
-hint_marks (Good p) m = record { indent = m.indent; value = m.value; multiline = true }
-hint_marks Bad m = m
+abbrev pub hint_marks : Option Part → Marks → Marks
+hint_marks (Some p) m = record { indent = m.indent; value = m.value; multiline = true }
+hint_marks None m = m
 
 -- Hint; r is what stands after the three quotes. A fourth quote is 2, and the place does not move
 unfoldable pub plan_hint : Marks → ℕ → List ℕ → Plan
 plan_hint m k r =
     let t = checked_of Blanks (take (plain_end (byte ";") r) r) in
     let hint = keeps (said (λ p. MultilineHint (shifted_by (k + 3) p)) t) (k + 3 + plain_end (byte ";") r) (hint_marks t m) in
-    cond (starts_with (ascii "\"") r) (keeps (Refused characters_after_quotes) 0 m) hint
+    cond (starts_with (ascii "\"") r) (keeps (Refused CharactersAfterQuotes) 0 m) hint
 
 -- A value that begins with three quotes is a hint
 unfoldable pub plan_value : Marks → ℕ → List ℕ → Plan
@@ -121,7 +120,7 @@ unfoldable pub plan_open : Marks → ℕ → ℕ → List ℕ → Plan
 plan_open m depth k w =
     cond (ltb depth max_open)
     (record { says = Indent; pass = k; lines = 0; marks = m; change = Open })
-    (keeps (Refused too_many_open) (k + line_end w) m)
+    (keeps (Refused TooManyOpen) (k + line_end w) m)
 
 -- Rule 5, neither equal nor deeper: Outdent; the indentation is held and its mark set
 unfoldable pub plan_outdent : Marks → ℕ → Plan

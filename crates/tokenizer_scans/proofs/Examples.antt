@@ -5,8 +5,9 @@ use Prim.Native.Char.{code as byte}
 use mathlib.Core.Path.{◌≡◌, refl}
 use mathlib.Core.List.{List, [], ◌∷◌}
 use mathlib.Core.Bool.{true, false}
+use Rattle.std.specs.Prelude.{Some, None}
 use Rattle.text.specs.Ascii.{ascii}
-use Rattle.text.specs.Bytes.{is_blank, is_break, count_while, starts_with}
+use Rattle.text.specs.Bytes.{is_blank, is_break, starts_with}
 use Rattle.text.specs.Trimming.{dropped, kept_end, trimmed}
 use Rattle.utf8.specs.Utf8.{within, lead_of, owes, utf8}
 use Rattle.text.specs.declared.trimming.Dropped.TheVariants.{Blanks}
@@ -30,11 +31,10 @@ use Rattle.tokenizer_scans.specs.Scans.{
   lines_of,
 }
 use Rattle.tokenizer_scans.specs.declared.readers.Relation.TheVariants.{Deeper, Other}
-use Rattle.tokenizer_scans.specs.declared.readers.Text.TheVariants.{Good, Bad}
 
 -- what computing a text's end unfolds
 rules : ℕ → List ℕ → ℕ
-unfolding is_break count_while stops plain_end closing quotes_end text_end
+unfolding is_break stops plain_end closing quotes_end text_end
 rules also s = text_end also s
 
 -- a tab is no space, and a longer indentation that begins with the innermost is deeper
@@ -89,20 +89,20 @@ unfolding eq_size
 equals = refl
 
 -- a text is trimmed of blanks, if it is UTF-8
-trimmed-text : checked_of Blanks (ascii " a\t") ≡ Good (record { start = 1; end = 2 })
-unfolding checked_of trimmed dropped is_blank count_while kept_end within lead_of owes utf8
+trimmed-text : checked_of Blanks (ascii " a\t") ≡ Some (record { start = 1; end = 2 })
+unfolding checked_of trimmed dropped is_blank kept_end within lead_of owes utf8
 trimmed-text = refl
 
-bad-text : checked_of Blanks (0xFF ∷ []) ≡ Bad
+bad-text : checked_of Blanks (0xFF ∷ []) ≡ None
 unfolding checked_of within lead_of owes utf8
 bad-text = refl
 
 -- ` a` CR LF, a blank line, ` b`, then `c` at the indentation of none: eight bytes, and lines for ` a`, the blank one and ` b`
 three-lines : lines_of (ascii " ") (ascii " a\r\n\n b\nc") ≡ record { len = 8; count = 3 }
-unfolding is_blank is_break count_while starts_with dropped piece is_void belongs_to multiline_end breaks_after ends_in_break line_count lines_of
+unfolding is_blank is_break starts_with dropped piece is_void belongs_to multiline_end breaks_after ends_in_break line_count lines_of
 three-lines = refl
 
 -- `  x`: a last line without a break counts
 last_line : lines_of (ascii "  ") (ascii "  x") ≡ record { len = 3; count = 1 }
-unfolding is_blank is_break count_while starts_with dropped piece is_void belongs_to multiline_end breaks_after ends_in_break line_count lines_of
+unfolding is_blank is_break starts_with dropped piece is_void belongs_to multiline_end breaks_after ends_in_break line_count lines_of
 last_line = refl

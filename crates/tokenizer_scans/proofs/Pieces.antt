@@ -3,29 +3,32 @@
 use Prim.Native.Nat.{ℕ, suc, ◌+◌, ◌-◌, ◌≤◌, ◌<◌}
 use mathlib.Core.Path.{◌≡◌, refl, ap}
 use mathlib.Core.List.{List, [], ◌∷◌}
-use mathlib.Core.Bool.{Bool, true, false, cond, not, ◌&&◌, ◌||◌, and-false}
+use mathlib.Core.Bool.{Bool, true, false, cond, not, ◌&&◌, ◌||◌, and-true, and-false}
 use native.Mathlib.Nat.{add-zero, zero-add, suc-add}
 use native.Mathlib.Numerals.{one-add, sub-one}
 use native.Mathlib.Omega.{arith}
 use lib.Dec.{eqb}
-use lib.ListN.{length, get_or, take, drop, length-drop, drop_of_length-le}
+use lib.ListN.{length, take, drop, length-drop, drop_of_length-le}
 use lib.Seq.{take-nil, drop-drop}
 use borrow.Author.Tests.{eqb-true}
-use Rattle.text.specs.Bytes.{is_break, count_while, line_end}
+use Rattle.std.specs.Prelude.{Some, slice_get}
+use Rattle.std.specs.Option.{option_eq}
+use Rattle.std.specs.Cmp.Lexicographic.{pointwise}
+use Rattle.text.specs.Bytes.{is_break, line_end}
 use Rattle.text.proofs.Cases.{by_bool, on-cond}
 use Rattle.tokenizer_scans.specs.Scans.{piece, piece_len, belongs_to, multiline_end, breaks_after, is_lf, ends_in_cr, ends_in_break, line_count, lines_of}
 
 -- The length of a piece, from the line's end.
-pub piece-break : (s : List ℕ) → line_end s < length s → piece_len s ≡ suc (line_end s)
-unfolding piece piece_len count_while
-piece-break [] h = absurd (omega arith)
-piece-break (b ∷ r) h = by_bool (is_break b) (λ e. rw e) (λ e. rw e (ap suc (piece-break r (let k = rw e at h in omega arith))))
+pub piece_break : (s : List ℕ) → line_end s < length s → piece_len s ≡ suc (line_end s)
+unfolding piece piece_len
+piece_break [] h = absurd (omega arith)
+piece_break (b ∷ r) h = by_bool (is_break b) (λ e. rw e) (λ e. rw (e, one-add) (ap suc (piece_break r (let k = rw e at h in omega arith))))
 
-pub piece-all : (s : List ℕ) → length s ≤ line_end s → piece_len s ≡ line_end s
-unfolding piece piece_len count_while
-piece-all [] h = refl
-piece-all (b ∷ r) h =
-    by_bool (is_break b) (λ e. let k = rw e at h in absurd (omega arith)) (λ e. rw e (ap suc (piece-all r (let k = rw e at h in omega arith))))
+pub piece_all : (s : List ℕ) → length s ≤ line_end s → piece_len s ≡ line_end s
+unfolding piece piece_len
+piece_all [] h = refl
+piece_all (b ∷ r) h =
+    by_bool (is_break b) (λ e. let k = rw e at h in absurd (omega arith)) (λ e. rw (e, one-add) (ap suc (piece_all r (let k = rw e at h in omega arith))))
 
 pub piece-le : (s : List ℕ) → piece_len s ≤ length s
 unfolding piece piece_len
@@ -73,29 +76,22 @@ module _ (indent : List ℕ) where
   extent-le within (b ∷ r) =
       on-cond (λ n. n ≤ suc (length r)) (within || belongs_to indent (piece (b ∷ r))) (λ _. omega (arith, extent-le (not (is_break b)) r)) (λ _. omega arith)
 
--- The tests of a piece by its length and positions.
-pub one_byte : (s : List ℕ) → length s ≡ 1 → is_lf s ≡ eqb (get_or s 0 0) 10
+-- The tests of a piece, as the code has them.
+pub lone_lf : (s : List ℕ) → pointwise eqb s (10 ∷ []) ≡ is_lf s
 unfolding is_lf
-one_byte [] h = absurd (omega arith)
-one_byte (b ∷ []) h = refl
-one_byte (b ∷ c ∷ r) h = absurd (omega arith)
+lone_lf [] = refl
+lone_lf (b ∷ []) = rw and-true
+lone_lf (b ∷ c ∷ r) = rw and-false
 
-pub not-one : (s : List ℕ) → (length s ≡ 1 → ⊥) → is_lf s ≡ false
-unfolding is_lf
-not-one [] h = refl
-not-one (b ∷ []) h = absurd (h refl)
-not-one (b ∷ c ∷ r) h = refl
-
-pub last_byte : (before : Bool) (s : List ℕ) → 0 < length s → ends_in_cr before s ≡ eqb (get_or s (length s - 1) 0) 13
+last-cr : (before : Bool) (b : ℕ) (r : List ℕ) → option_eq eqb (slice_get (b ∷ r) (length r)) (Some 13) ≡ ends_in_cr before (b ∷ r)
 unfolding ends_in_cr
-last_byte before [] h = absurd (omega arith)
-last_byte before (b ∷ []) h = refl
-last_byte before (b ∷ c ∷ r) h = rw sub-one (rw sub-one at (last_byte (eqb b 13) (c ∷ r) (omega arith)))
+last-cr before b [] = refl
+last-cr before b (c ∷ r) = last-cr (eqb b 13) c r
 
-pub no_byte : (before : Bool) (s : List ℕ) → length s ≤ 0 → ends_in_cr before s ≡ before
+pub cr_last : (s : List ℕ) → option_eq eqb (slice_get s (length s - 1)) (Some 13) ≡ ends_in_cr false s
 unfolding ends_in_cr
-no_byte before [] h = refl
-no_byte before (b ∷ r) h = absurd (omega arith)
+cr_last [] = refl
+cr_last (b ∷ r) = rw sub-one (last-cr false b r)
 
 -- The lines that the pieces of a text add, where cr says whether a CR stands before.
 unfoldable pub lines_after : Bool → List ℕ → ℕ

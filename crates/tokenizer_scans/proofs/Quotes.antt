@@ -1,7 +1,8 @@
 -- Laws of `closing` at a position of a text, for the loop of `quotes_len`; what `quotes_end` and `eq_size` are by the first byte; and
 -- the bounds: no scan of a key's or a value's text passes the end of what it reads.
 use Prim.Native.Nat.{ℕ, suc, ◌+◌, ◌-◌, ◌≤◌, ◌<◌}
-use mathlib.Core.Path.{◌≡◌, sym, ◌∙◌}
+use denote.Ref.{Bor}
+use mathlib.Core.Path.{◌≡◌, refl, sym, ◌∙◌}
 use mathlib.Core.List.{List, [], ◌∷◌}
 use mathlib.Core.Bool.{Bool, true, false, cond, not, ◌&&◌}
 use native.Mathlib.Nat.{add-zero, add-suc, suc-add}
@@ -11,19 +12,19 @@ use lib.Dec.{eqb, ltb}
 use lib.ListN.{length, get_or, drop, length-drop, drop_of_length-le}
 use lib.Seq.{drop-cons}
 use borrow.Author.Tests.{ltb-true, ltb-false}
-use Rattle.text.specs.Bytes.{is_break, first_of}
-use Rattle.text.specs.declared.bytes.First.TheVariants.{Byte, Nothing}
+use Rattle.std.specs.Prelude.{Option, Some, None, slice_get}
+use Rattle.std.specs.Option.{option_eq, option_copied}
+use Rattle.text.specs.Bytes.{is_break}
 use Rattle.text.proofs.Cases.{by_bool, on-cond, clash}
-use Rattle.text.proofs.Front.{empty}
 use Rattle.text.proofs.Prefix.{short}
-use Rattle.text.proofs.Scan.{count-le}
+use Rattle.std.proofs.lemmas.List.Sums.{prefix_len-le-length}
 use Rattle.tokenizer_scans.specs.Scans.{stops, plain_end, closing, quotes_end, text_end, begins_hint, eq_size}
 
 module _ (escaped : Bool) (s : List ℕ) (i : ℕ) where
   -- CR or LF at i ends them
-  pub at-break : i < length s → is_break (get_or s i 0) ≡ true → i + closing escaped (drop i s) ≡ i
+  pub at_break : i < length s → is_break (get_or s i 0) ≡ true → i + closing escaped (drop i s) ≡ i
   unfolding closing
-  at-break h t = rw (drop-cons s i 0 h, t, add-zero)
+  at_break h t = rw (drop-cons s i 0 h, t, add-zero)
 
   -- the byte at i closes them
   pub close : i < length s → is_break (get_or s i 0) ≡ false → (eqb (get_or s i 0) 34 && not escaped) ≡ true → i + closing escaped (drop i s) ≡ i + 1
@@ -41,24 +42,22 @@ module _ (escaped : Bool) (s : List ℕ) (i : ℕ) where
   unfolding closing
   end h = rw (drop_of_length-le s h, add-zero)
 
+-- A byte that is read, or none, compared with a given one.
+pub read : (r : Option (Bor ℕ)) {o : Option ℕ} (q : Bor ℕ) {t : Bool} → option_copied r ≡ o → t ≡ option_eq (λ x y. eqb x.now y.now) r (Some q)
+    → t ≡ option_eq eqb o (Some q.now)
+read None q e f = rw (← e) f
+read (Some x) q e f = rw (← e) f
+
 -- By the first byte.
-pub no-quotes : (s : List ℕ) → first_of s ≡ Nothing → quotes_end s ≡ 0
+pub quotes_first : (s : List ℕ) → quotes_end s ≡ cond (option_eq eqb (slice_get s 0) (Some 34)) (1 + closing false (drop 1 s)) 0
 unfolding quotes_end
-no-quotes s e = rw (empty s e)
+quotes_first [] = refl
+quotes_first (b ∷ r) = rw one-add
 
-pub begins : (s : List ℕ) (b : ℕ) → first_of s ≡ Byte b → quotes_end s ≡ cond (eqb b 34) (1 + closing false (drop 1 s)) 0
-unfolding quotes_end first_of
-begins [] b e = let z : ◌≡◌ {A = ℕ} 0 1 = cc in absurd (omega arith)
-begins (a ∷ r) b e = let q : a ≡ b = cc in rw (q, one-add)
-
-pub no_eq : (s : List ℕ) → first_of s ≡ Nothing → eq_size s ≡ 0
+pub eq_first : (s : List ℕ) → eq_size s ≡ cond (option_eq eqb (slice_get s 0) (Some 61)) 1 0
 unfolding eq_size
-no_eq s e = rw (empty s e)
-
-pub eq-first : (s : List ℕ) (b : ℕ) → first_of s ≡ Byte b → eq_size s ≡ cond (eqb b 61) 1 0
-unfolding eq_size first_of
-eq-first [] b e = let z : ◌≡◌ {A = ℕ} 0 1 = cc in absurd (omega arith)
-eq-first (a ∷ r) b e = let q : a ≡ b = cc in rw q
+eq_first [] = refl
+eq_first (b ∷ r) = refl
 
 -- The bounds.
 closing-le : (escaped : Bool) (s : List ℕ) → closing escaped s ≤ length s
@@ -69,18 +68,18 @@ closing-le escaped (b ∷ r) =
     on-cond (λ n. n ≤ suc (length r)) (is_break b) (λ _. omega arith)
     (λ _. on-cond (λ n. n ≤ suc (length r)) (eqb b 34 && not escaped) (λ _. omega arith) (λ _. omega arith))
 
-pub quotes-le : (s : List ℕ) → quotes_end s ≤ length s
+pub quotes_le : (s : List ℕ) → quotes_end s ≤ length s
 unfolding quotes_end
-quotes-le [] = omega arith
-quotes-le (b ∷ r) = on-cond (λ n. n ≤ suc (length r)) (eqb b 34) (λ _. omega (arith, closing-le false r)) (λ _. omega arith)
+quotes_le [] = omega arith
+quotes_le (b ∷ r) = on-cond (λ n. n ≤ suc (length r)) (eqb b 34) (λ _. omega (arith, closing-le false r)) (λ _. omega arith)
 
 pub plain-le : (also : ℕ) (s : List ℕ) → plain_end also s ≤ length s
 unfolding plain_end
-plain-le also s = count-le (λ b. not (stops also b)) s
+plain-le also s = prefix_len-le-length (λ b. not (stops also b)) s
 
-pub text-le : (also : ℕ) (s : List ℕ) → text_end also s ≤ length s
+pub text_le : (also : ℕ) (s : List ℕ) → text_end also s ≤ length s
 unfolding text_end
-text-le also s = omega (arith, quotes-le s, plain-le also (drop (quotes_end s) s), length-drop (quotes_end s) s)
+text_le also s = omega (arith, quotes_le s, plain-le also (drop (quotes_end s) s), length-drop (quotes_end s) s)
 
 pub eq-one : (s : List ℕ) → eq_size s ≤ 1
 unfolding eq_size

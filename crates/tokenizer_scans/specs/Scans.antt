@@ -1,22 +1,22 @@
 -- Law: document 01, 'Tokenizer': the scans of its token readers (key, value, hint, multiline value), over the rest of a
 -- document from somewhere on.
-use Rattle.std.specs.Prelude.{ℕ, suc, ◌+◌, List, [], ◌∷◌, Bool, true, false, cond, not, ◌&&◌, ◌||◌, length, take, drop, eqb}
+use Rattle.std.specs.Prelude.{ℕ, suc, ◌+◌, Option, Some, None, List, [], ◌∷◌, Bool, true, false, cond, not, ◌&&◌, ◌||◌, length, take, drop, eqb}
 use Prim.Native.Char.{code as byte}
 use Rattle.text.specs.Ascii.{ascii}
-use Rattle.text.specs.Bytes.{is_break, count_while, starts_with}
+use Rattle.text.specs.Bytes.{is_break, starts_with}
+use Rattle.std.specs.List.{prefix_len}
 use Rattle.text.specs.Trimming.{dropped, trimmed}
 use Rattle.utf8.specs.Utf8.{utf8}
+use Rattle.text.specs.declared.bytes.Part.{Part}
 use Rattle.text.specs.declared.trimming.Dropped.{Dropped}
 use Rattle.text.specs.declared.trimming.Dropped.TheVariants.{Blanks, BlanksAndBreaks}
 use Rattle.tokenizer_scans.specs.declared.readers.Relation.{Relation}
 use Rattle.tokenizer_scans.specs.declared.readers.Relation.TheVariants.{Equal, Deeper, Other}
-use Rattle.tokenizer_scans.specs.declared.readers.Text.{Text}
-use Rattle.tokenizer_scans.specs.declared.readers.Text.TheVariants.{Good, Bad}
 use Rattle.tokenizer_scans.specs.declared.readers.Lines.{Lines}
 
 -- how many blanks stand in front
 unfoldable pub blanks : List ℕ → ℕ
-blanks s = count_while (dropped Blanks) s
+blanks s = prefix_len (dropped Blanks) s
 
 -- an indentation against the innermost open one: equal, deeper (longer, beginning with it), or neither
 unfoldable pub relation_of : List ℕ → List ℕ → Relation
@@ -31,7 +31,7 @@ stops also b = is_break b || (eqb b (byte ";") || eqb b also)
 
 -- how many bytes stand before that
 unfoldable pub plain_end : ℕ → List ℕ → ℕ
-plain_end also s = count_while (λ b. not (stops also b)) s
+plain_end also s = prefix_len (λ b. not (stops also b)) s
 
 -- inside quotes: through the `"` that no backslash escapes, or up to CR, LF or the end; an escaped backslash escapes nothing
 unfoldable pub closing : Bool → List ℕ → ℕ
@@ -50,8 +50,8 @@ unfoldable pub text_end : ℕ → List ℕ → ℕ
 text_end also s = quotes_end s + plain_end also (drop (quotes_end s) s)
 
 -- a text that was read: trimmed, if it is UTF-8
-unfoldable pub checked_of : Dropped → List ℕ → Text
-checked_of which s = cond (utf8 s) (Good (trimmed (dropped which) s)) Bad
+unfoldable pub checked_of : Dropped → List ℕ → Option Part
+checked_of which s = cond (utf8 s) (Some (trimmed (dropped which) s)) None
 
 -- three quotes in front
 unfoldable pub begins_hint : List ℕ → Bool
@@ -72,7 +72,7 @@ piece_len s = length (piece s)
 
 -- only blanks and breaks
 unfoldable pub is_void : List ℕ → Bool
-is_void s = eqb (count_while (dropped BlanksAndBreaks) s) (length s)
+is_void s = eqb (prefix_len (dropped BlanksAndBreaks) s) (length s)
 
 -- the piece begins with the indentation, or has only blanks and breaks
 unfoldable pub belongs_to : List ℕ → List ℕ → Bool

@@ -4,6 +4,5 @@
 mod readers;
 
 pub use readers::{
-    Lines, Relation, Text, begins_hint, checked, eq_size, multiline_len, plain_len, relate,
-    text_len,
+    Lines, Relation, begins_hint, checked, eq_size, multiline_len, plain_len, relate, text_len,
 };

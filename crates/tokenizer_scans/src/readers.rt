@@ -4,6 +4,7 @@ ghost use Rattle.tokenizer_scans.specs.Scans.{
   relation_of,
   stops,
   plain_end,
+  closing,
   quotes_end,
   text_end,
   checked_of,
@@ -16,16 +17,17 @@ ghost use Rattle.tokenizer_scans.specs.Scans.{
   eq_size,
 };
 
-use text::{Dropped, First, Part, first_of, is_newline};
+use text::{Dropped, Part, is_newline};
 
 // How an indentation lies to the innermost open one: the same bytes, longer and beginning with it, or neither.
-#[derive(Clone, Copy)]
+#[derive(Clone, Copy, Debug, PartialEq, Eq)]
 pub enum Relation {
     Equal,
     Deeper,
     Other,
 }
 
+#[tactic(auto, using(crate::proofs::Related::other, crate::proofs::Related::equal, crate::proofs::Related::deeper))]
 pub fn relate(inner: &[u8], indent: &[u8]) -> Relation
     ensures { result ≡ relation_of inner.now indent.now }
 {
@@ -48,34 +50,32 @@ fn stops_text(b: u8, also: u8) -> bool
 }
 
 // How many bytes stand before CR, LF, `;` or `also`.
+#[tactic(auto, unfolding(crate::specs::Scans::plain_end))]
 pub fn plain_len(s: &[u8], also: u8) -> usize
     ensures { result ≡ plain_end also s.now }
 {
-    let mut i = 0;
-    while i < s.len() {
-        if stops_text(s[i], also) {
-            return i;
-        }
-        i += 1;
-    }
-    i
+    s.iter().take_while(|b| !stops_text(**b, also)).count()
 }
 
-// How many bytes the quotes take that s begins with, the closing one included: up to CR, LF or the end where none closes
-// them; 0 where s begins with no quote.
+// How many bytes the quotes take that s begins with, the closing one included: up to CR, LF or the end where none
+// closes them; 0 where s begins with no quote.
 fn quotes_len(s: &[u8]) -> usize
     ensures { result ≡ quotes_end s.now }
 {
-    let First::Byte(first) = first_of(s) else {
-        return 0;
-    };
-    if first != b'"' {
-        return 0;
+    if s.first() == Some(&b'"') {
+        1 + closing_len(&s[1..])
+    } else {
+        0
     }
+}
+
+// The same of what stands behind the opening quote.
+#[tactic(auto, using(crate::proofs::Quotes::at_break, crate::proofs::Quotes::close, crate::proofs::Quotes::more, crate::proofs::Quotes::end))]
+fn closing_len(s: &[u8]) -> usize
+    ensures { result ≡ closing false s.now }
+{
     let mut escaped = false;
-    let mut i = 1;
-    while i < s.len() {
-        let b = s[i];
+    for (i, &b) in s.iter().enumerate() {
         if is_newline(b) {
             return i;
         }
@@ -83,12 +83,12 @@ fn quotes_len(s: &[u8]) -> usize
             return i + 1;
         }
         escaped = b == b'\\' && !escaped;
-        i += 1;
     }
-    i
+    s.len()
 }
 
 // The length of a key's or a value's text, blanks at its end included.
+#[tactic(auto, using(crate::proofs::Quotes::quotes_le, crate::proofs::Quotes::text_le, text::proofs::Front::from), unfolding(crate::specs::Scans::text_end))]
 pub fn text_len(s: &[u8], also: u8) -> usize
     ensures { result ≡ text_end also s.now }
 {
@@ -96,24 +96,20 @@ pub fn text_len(s: &[u8], also: u8) -> usize
     quotes + plain_len(&s[quotes..], also)
 }
 
-// A text that was read: its trimmed part, or that it is not UTF-8.
-#[derive(Clone, Copy)]
-pub enum Text {
-    Good(Part),
-    Bad,
-}
-
-pub fn checked(which: Dropped, s: &[u8]) -> Text
+// The trimmed part of a text that was read, or nothing where it is not UTF-8.
+#[tactic(auto, unfolding(crate::specs::Scans::checked_of))]
+pub fn checked(which: Dropped, s: &[u8]) -> Option<Part>
     ensures { result ≡ checked_of which s.now }
 {
     if utf8::is_utf8(s) {
-        Text::Good(text::trim(which, s))
+        Some(text::trim(which, s))
     } else {
-        Text::Bad
+        None
     }
 }
 
 // Whether s begins with three quotes.
+#[tactic(auto, unfolding(crate::specs::Scans::begins_hint))]
 pub fn begins_hint(s: &[u8]) -> bool
     ensures { result ≡ begins_hint s.now }
 {
@@ -121,16 +117,15 @@ pub fn begins_hint(s: &[u8]) -> bool
 }
 
 // 1 where s begins with `=`, else 0.
+#[tactic(auto, using(crate::proofs::Quotes::read, crate::proofs::Quotes::eq_first))]
 pub fn eq_size(s: &[u8]) -> usize
     ensures { result ≡ eq_size s.now }
 {
-    let First::Byte(b) = first_of(s) else {
-        return 0;
-    };
-    if b == b'=' { 1 } else { 0 }
+    if s.first() == Some(&b'=') { 1 } else { 0 }
 }
 
 // The length of the first piece: through the first CR or LF, or all.
+#[tactic(auto, using(crate::proofs::Pieces::piece_break, crate::proofs::Pieces::piece_all))]
 fn piece_len(s: &[u8]) -> usize
     ensures { result ≡ piece_len s.now }
 {
@@ -139,13 +134,12 @@ fn piece_len(s: &[u8]) -> usize
 }
 
 // Whether a piece belongs to the multiline value of that indentation: it begins with it, or has only blanks and breaks.
+#[tactic(auto, unfolding(crate::specs::Scans::belongs_to, crate::specs::Scans::is_void))]
 fn belongs(indent: &[u8], piece: &[u8]) -> bool
     ensures { result ≡ belongs_to indent.now piece.now }
 {
-    if text::starts_with(piece, indent) {
-        return true;
-    }
-    text::leading(Dropped::BlanksAndBreaks, piece) == piece.len()
+    text::starts_with(piece, indent)
+        || text::leading(Dropped::BlanksAndBreaks, piece) == piece.len()
 }
 
 // The bytes of a multiline value, and the lines that they add.
@@ -155,23 +149,21 @@ pub struct Lines {
     pub count: usize,
 }
 
+#[tactic(auto, using(crate::proofs::Pieces::lone_lf))]
 fn is_lf(piece: &[u8]) -> bool
     ensures { result ≡ is_lf piece.now }
 {
-    if piece.len() == 1 {
-        piece[0] == b'\n'
-    } else {
-        false
-    }
+    piece == b"\n".as_slice()
 }
 
 fn ends_in_cr(piece: &[u8]) -> bool
     ensures { result ≡ ends_in_cr false piece.now }
 {
-    let n = piece.len();
-    if 0 < n { piece[n - 1] == b'\r' } else { false }
+    piece.last() == Some(&b'\r')
 }
 
+// An index: a piece ends where `line_end` says, which looks at sixteen bytes at once; `split_inclusive` would ask a
+// closure at each byte.
 pub fn multiline_len(indent: &[u8], s: &[u8]) -> Lines
     ensures { result ≡ lines_of indent.now s.now }
 {

@@ -1,4 +1,6 @@
 -- Words are read back as the state that was written.
+use Rattle.text.specs.declared.bytes.Part.{Part}
+use Rattle.std.specs.Prelude.{Option, Some, None}
 use Prim.Native.Nat.{ℕ, ◌≤◌}
 use mathlib.Core.Path.{◌≡◌, refl}
 use mathlib.Core.List.{List, ◌++◌}
@@ -8,8 +10,6 @@ use lib.Dec.{leb}
 use lib.ListN.{length, drop, get_or, length-append}
 use borrow.Author.Tests.{le-leb}
 use Rattle.tokenizer.specs.Step.{fresh}
-use Rattle.tokenizer.specs.declared.state.Held.{Held}
-use Rattle.tokenizer.specs.declared.state.Held.TheVariants.{Nothing, At}
 use Rattle.tokenizer.specs.declared.state.State.{State}
 use Rattle.tokenizer_words.specs.Words.{flag, held_words, part_words, front_words, words_of, readable}
 use Rattle.tokenizer_words.specs.Claims.{Slots, StatesBack, StoredBack, Layout}
@@ -17,10 +17,10 @@ use Rattle.tokenizer_words.proofs.Slots.{held-words, words-137}
 use Rattle.tokenizer_words.proofs.Storing.{stored-137}
 use Rattle.tokenizer_words.proofs.Standing.{state-back}
 
-held_tells : (h : Held) → leb (get_or (held_words h) 0 0) 1 ≡ true
+held_tells : (h : Option Part) → leb (get_or (held_words h) 0 0) 1 ≡ true
 unfolding held_words
-held_tells Nothing = refl
-held_tells (At p) = refl
+held_tells None = refl
+held_tells (Some p) = refl
 
 pub flag-tells : (b : Bool) → leb (flag b) 1 ≡ true
 unfolding flag

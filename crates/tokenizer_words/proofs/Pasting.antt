@@ -1,4 +1,4 @@
--- Writing over a list from a place on: with room and with none, nothing, one more, one more of a list, and next to those that stand at the front.
+-- Writing over a list from a place on: with room and with none, nothing, all at once, one more, and next to those that stand at the front.
 use Prim.Native.Nat.{ℕ, ◌+◌, ◌≤◌, ◌<◌}
 use mathlib.Core.Path.{◌≡◌}
 use mathlib.Core.List.{List, [], ◌∷◌, ◌++◌, append-nil, append_assoc}
@@ -6,7 +6,7 @@ use native.Mathlib.Nat.{add-zero, zero-add}
 use native.Mathlib.Numerals.{add-one}
 use native.Mathlib.Omega.{arith}
 use lib.ListN.{length, take, drop, get_or, set, length-append, take-append-drop}
-use lib.Seq.{drop-cons, drop-drop, drop-append-add, take-suc, take-append_seam, set_at, append_snoc, length-take-le}
+use lib.Seq.{drop-cons, drop-drop, drop-append-add, take-append_seam, set_at, append_snoc, length-take-le}
 use borrow.Author.Tests.{lt-leb, le-leb}
 use Rattle.tokenizer_words.specs.Words.{pasted, pasted_in}
 
@@ -24,6 +24,12 @@ pub pasted-no-room : (s w : List ℕ) (n : ℕ) → length w < n + length s → 
 unfolding pasted_in
 pasted-no-room s w n h = rw (lt-leb (n + length s) (length w) h)
 
+-- s copied over the k words from the nth on, as copy_from_slice does
+pub copied_over : (s w c : List ℕ) (n k : ℕ) → c ≡ s → k ≡ length s → n + length s ≤ length w
+    → take n w ++ (c ++ drop k (drop n w)) ≡ pasted_in s n w
+unfolding pasted
+copied_over s w c n k e f h = rw (e, f, drop-drop, pasted-room s w n h, append_assoc)
+
 -- one more after the i that are written
 pub written-more : {A : Type 0} (p l : List A) (a z : A) (i : ℕ) → length p ≡ i → i < length l
     → set (p ++ drop i l) i a ≡ p ++ (a ∷ []) ++ drop (i + 1) l
@@ -36,11 +42,6 @@ pasted-more s w n k a e h =
     let l : length (take n w ++ s) ≡ n + k = rw (length-append, length-take-le n w (omega arith), e) in
     let m : n + length (s ++ (a ∷ [])) ≡ n + k + 1 = rw length-append (omega arith) in
     rw (m, e, written-more (take n w ++ s) w a 0 (n + k) l h, append_assoc (take n w) s (a ∷ []))
-
--- one word more of s
-pub pasted-next : (s w : List ℕ) (n i : ℕ) → i < length s → n + i < length w
-    → set (pasted (take i s) n w) (n + i) (get_or s i 0) ≡ pasted (take (i + 1) s) n w
-pasted-next s w n i h k = rw (pasted-more (take i s) w n i (get_or s i 0) (length-take-le i s (omega arith)) k, add-one, take-suc s i 0 h)
 
 pub pasted-front : (s w : List ℕ) → pasted s 0 w ≡ s ++ drop (length s) w
 unfolding pasted

@@ -1,17 +1,22 @@
 -- The words of a readable state, copied as they are but for what is held, are those of the state that is read from them.
+use Rattle.text.specs.declared.bytes.Part.{Part}
+use Rattle.std.specs.Prelude.{Option, Some, None, map}
 use Prim.Native.Nat.{ℕ, zero, suc, ◌+◌, ◌*◌, ◌≤◌, ◌<◌}
 use mathlib.Core.Path.{◌≡◌, refl, sym, ap, subst, ◌∙◌}
 use mathlib.Core.List.{List, [], ◌∷◌, ◌++◌, append_assoc}
-use mathlib.Core.Bool.{true}
+use mathlib.Core.Bool.{true, and-true}
+use native.Mathlib.Numerals.{add-one}
+use Rattle.std.specs.List.{list_all, range_with_len}
+use Rattle.std.proofs.lemmas.List.Folds.{list_all-append, list_all-map}
+use Rattle.std.proofs.lemmas.List.FromFn.{map-range_with_len_more}
 use native.Mathlib.Omega.{arith}
 use lib.Dec.{eqb, leb}
 use lib.ListN.{length, take, drop, get_or, length-append, length-drop}
 use lib.Seq.{drop-cons, get_or-drop, take-append_seam, length-take-le}
 use borrow.Author.Tests.{leb-true}
 use Rattle.text.proofs.Cases.{and_left, and_right}
-use Rattle.tokenizer.specs.Step.{no_part}
-use Rattle.tokenizer.specs.declared.state.Held.{Held}
-use Rattle.tokenizer.specs.declared.state.Held.TheVariants.{Nothing, At}
+use Rattle.tokenizer.specs.Step.{no_part, fit_part, fit_open}
+use Rattle.tokenizer.proofs.Fitness.{open_more}
 use Rattle.tokenizer_words.specs.Words.{pasted, pasted_in, flag, held_words, part_words, front_words, words_of, parts_in, held_by, state_in, readable}
 use Rattle.tokenizer_words.proofs.Pasting.{pasted-room, pasted-front}
 use Rattle.tokenizer_words.proofs.Slots.{part-words-length, parts-length}
@@ -19,11 +24,28 @@ use Rattle.tokenizer_words.proofs.Standing.{part_at, slots-back}
 use Rattle.tokenizer_words.proofs.Storing.{has-137}
 
 -- the ith slot, by its two words
-pub slot_at : (w : List ℕ) (i : ℕ) → i < 64 → record { start = get_or w (9 + 2 * i) 0; end = get_or w (10 + 2 * i) 0 } ≡ get_or (state_in w).indents i no_part
+abbrev pub slot : List ℕ → ℕ → Part
+slot w i = record { start = get_or w (9 + 2 * i) 0; end = get_or w (10 + 2 * i) 0 }
+
+pub slot_at : (w : List ℕ) (i : ℕ) → i < 64 → slot w i ≡ get_or (state_in w).indents i no_part
 unfolding state_in
 slot_at w i h =
     let j : 9 + (2 * i + 1) ≡ 10 + 2 * i = omega arith in
     rw (part_at 64 (drop 9 w) i h, get_or-drop 9 w (2 * i) 0, get_or-drop 9 w (2 * i + 1) 0, j)
+
+mapped_fit : (n : ℕ) (w : List ℕ) (k : ℕ) → k ≤ 64 → list_all (fit_part n) (map (slot w) (range_with_len 0 k)) ≡ fit_open n (state_in w).indents k
+unfolding fit_open
+mapped_fit n w zero h = refl
+mapped_fit n w (suc k) h =
+    let s = (state_in w).indents in
+    let more : list_all (fit_part n) (map (slot w) (range_with_len 0 (k + 1))) ≡ fit_open n s (k + 1)
+    = rw (map-range_with_len_more (slot w) 0 k k (omega arith), list_all-append, mapped_fit n w k (omega arith), and-true)
+    (open_more n s k refl (ap (fit_part n) (slot_at w k (omega arith)))) in
+    rw add-one at more
+
+-- the slots of the open indentations, tested in their order
+pub slots_fit : (n : ℕ) (w : List ℕ) (k : ℕ) → k ≤ 64 → list_all (λ i. fit_part n (slot w i)) (range_with_len 0 k) ≡ fit_open n (state_in w).indents k
+slots_fit n w k h = sym (list_all-map (fit_part n) (slot w) (range_with_len 0 k)) ∙ mapped_fit n w k h
 
 -- a word that is 0 or 1, read as a mark and written again
 flag-back : (n : ℕ) → leb n 1 ≡ true → flag (eqb n 1) ≡ n
@@ -55,17 +77,17 @@ nine w h =
     (d 6 (omega arith) ∙ ap (λ x. get_or w 6 0 ∷ x)
     (d 7 (omega arith) ∙ ap (λ x. get_or w 7 0 ∷ x) (d 8 (omega arith)))))))))
 
-pub held-3 : (h : Held) → length (held_words h) ≡ 3
+pub held-3 : (h : Option Part) → length (held_words h) ≡ 3
 unfolding held_words
-held-3 Nothing = refl
-held-3 (At p) = refl
+held-3 None = refl
+held-3 (Some p) = refl
 
 -- three words, written behind five others
-behind-five : (h : Held) (a b c d e x y z : ℕ) (r : List ℕ)
+behind-five : (h : Option Part) (a b c d e x y z : ℕ) (r : List ℕ)
     → pasted (held_words h) 5 (a ∷ b ∷ c ∷ d ∷ e ∷ x ∷ y ∷ z ∷ r) ≡ a ∷ b ∷ c ∷ d ∷ e ∷ (held_words h ++ r)
 unfolding pasted held_words
-behind-five Nothing a b c d e x y z r = refl
-behind-five (At p) a b c d e x y z r = refl
+behind-five None a b c d e x y z r = refl
+behind-five (Some p) a b c d e x y z r = refl
 
 -- a readable state's words but for what is held are as its own
 marks-are : (w : List ℕ) → readable w ≡ true

@@ -10,8 +10,8 @@ use Rattle.tokenizer_rules.specs.declared.plan.Change.{Change}
 use Rattle.tokenizer_rules.specs.declared.plan.Change.TheVariants.{Keep, Open, Close, Hold}
 use Rattle.tokenizer.specs.Step.{indent_of, size_of, indents_after, plan_with, after_plan, step_with, step_rule, fit, step_of, fresh}
 use Rattle.tokenizer.specs.declared.state.State.{State}
-use Rattle.tokenizer.specs.declared.state.Step.{Step}
 use Rattle.tokenizer_words.specs.Claims.{Slotted}
+use Rattle.tokenizer.specs.declared.state.Step.{Step}
 
 indents-length : (c : Change) (i : Part) (is : List Part) (n : ℕ) → length (indents_after c i is n) ≡ length is
 indents-length Keep i is n = refl
@@ -29,7 +29,7 @@ rule-slots d s =
 pub step-slots : (d : List ℕ) (s : State) → length (step_of d s).state.indents ≡ length s.indents
 unfolding step_of
 step-slots d s =
-    let Kept : Step → Type 0 = λ x. length x.state.indents ≡ length s.indents in
+    let Kept : Step State → Type 0 = λ x. length x.state.indents ≡ length s.indents in
     on-cond Kept (ltb 16777216 (length d)) (λ _. refl)
     (λ _. on-cond Kept (fit (length d) s) (λ _. rule-slots d s) (λ _. refl))
 

@@ -1,4 +1,5 @@
 -- A state that stands in words: slots are read and written where they stand, and the state is read back.
+use Rattle.std.specs.Prelude.{Option, Some, None}
 use Prim.Native.Nat.{ℕ, zero, suc, ◌+◌, ◌*◌, ◌≤◌, ◌<◌}
 use mathlib.Core.Path.{◌≡◌, refl, ap}
 use mathlib.Core.List.{List, [], ◌∷◌, ◌++◌, append_assoc}
@@ -9,8 +10,6 @@ use lib.ListN.{length, take, drop, get_or, set}
 use lib.Seq.{get_or-drop, take-append-add, drop-append-add}
 use Rattle.text.specs.declared.bytes.Part.{Part}
 use Rattle.tokenizer.specs.Step.{no_part}
-use Rattle.tokenizer.specs.declared.state.Held.{Held}
-use Rattle.tokenizer.specs.declared.state.Held.TheVariants.{Nothing, At}
 use Rattle.tokenizer.specs.declared.state.State.{State}
 use Rattle.tokenizer_words.specs.Words.{pasted, flag, held_words, part_words, front_words, words_of, parts_in, held_by, state_in}
 use Rattle.tokenizer_words.proofs.Slots.{parts-length, held-words}
@@ -62,10 +61,10 @@ pasted-behind a s v n m e =
     rw (← e, k, take-append-add a v m, drop-append-add a v (m + length s), append_assoc a (take m v) s) (append_assoc a (take m v ++ s) (drop (m + length s) v))
 
 -- what is held, read back
-held_back : (h : Held) → held_by (get_or (held_words h) 0 0) (get_or (held_words h) 1 0) (get_or (held_words h) 2 0) ≡ h
+held_back : (h : Option Part) → held_by (get_or (held_words h) 0 0) (get_or (held_words h) 1 0) (get_or (held_words h) 2 0) ≡ h
 unfolding held_words
-held_back Nothing = refl
-held_back (At p) = refl
+held_back None = refl
+held_back (Some p) = refl
 
 pub eqb-flag : (b : Bool) → eqb (flag b) 1 ≡ b
 unfolding flag

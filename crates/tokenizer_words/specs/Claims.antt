@@ -1,10 +1,9 @@
 -- Claims about the words: what is written is read back, and the words stand in this order, without which two halves
 -- that are wrong alike would do. proofs/Claimed and Slotted prove them.
-use Rattle.std.specs.Prelude.{ℕ, ◌≤◌, ◌≡◌, List, ◌∷◌, ◌++◌, Bool, true, false, length, replicate}
+use Rattle.std.specs.Prelude.{Some, ℕ, ◌≤◌, ◌≡◌, List, ◌∷◌, ◌++◌, Bool, true, false, length, replicate}
 use Rattle.text.specs.Bytes.{part}
 use Rattle.text.specs.Numbers.{max_open}
 use Rattle.tokenizer.specs.Step.{no_part, step_of, fresh}
-use Rattle.tokenizer.specs.declared.state.Held.TheVariants.{At}
 use Rattle.tokenizer.specs.declared.state.State.{State}
 use Rattle.tokenizer_words.specs.Words.{tokenizer_size, words_of, stored_in, state_in, readable}
 
@@ -37,7 +36,7 @@ standing v m = record {
   place = 40;
   line = 7;
   marks = record { indent = false; value = v; multiline = m };
-  held = At (part 33 35);
+  held = Some (part 33 35);
   indents = part 20 21 ∷ part 28 30 ∷ replicate 62 no_part;
   depth = 2;
 }

@@ -2,11 +2,9 @@
 -- Place, line, the three marks (0 or 1), whether an indentation is held (0 or 1) with its start and end, the number of
 -- open indentations, and the start and end of each of the 64 slots. 137 words. What a step leaves in them in place is
 -- intermediate: proofs/Standing shows that it is the words of the law's step.
-use Rattle.std.specs.Prelude.{ℕ, zero, suc, ◌+◌, ◌*◌, List, [], ◌∷◌, ◌++◌, Bool, true, false, cond, ◌&&◌, eqb, leb, length, get_or, take, drop}
+use Rattle.std.specs.Prelude.{Option, Some, None, ℕ, zero, suc, ◌+◌, ◌*◌, List, [], ◌∷◌, ◌++◌, Bool, true, false, cond, ◌&&◌, eqb, leb, length, get_or, take, drop}
 use Rattle.text.specs.Numbers.{max_open}
 use Rattle.text.specs.declared.bytes.Part.{Part}
-use Rattle.tokenizer.specs.declared.state.Held.{Held}
-use Rattle.tokenizer.specs.declared.state.Held.TheVariants.{Nothing, At}
 use Rattle.tokenizer.specs.declared.state.State.{State}
 use Rattle.tokenizer.specs.Step.{fresh}
 
@@ -26,9 +24,9 @@ unfoldable pub flag : Bool → ℕ
 flag true = 1
 flag false = 0
 
-unfoldable pub held_words : Held → List ℕ
-held_words Nothing = 0 ∷ 0 ∷ 0 ∷ []
-held_words (At p) = 1 ∷ p.start ∷ p.end ∷ []
+unfoldable pub held_words : Option Part → List ℕ
+held_words None = 0 ∷ 0 ∷ 0 ∷ []
+held_words (Some p) = 1 ∷ p.start ∷ p.end ∷ []
 
 unfoldable pub part_words : List Part → List ℕ
 part_words [] = []
@@ -54,8 +52,8 @@ parts_in zero w = []
 parts_in (suc n) w = record { start = get_or w 0 0; end = get_or w 1 0 } ∷ parts_in n (drop 2 w)
 
 -- what is held, by its three words
-abbrev pub held_by : ℕ → ℕ → ℕ → Held
-held_by n a e = cond (eqb n 1) (At (record { start = a; end = e })) Nothing
+abbrev pub held_by : ℕ → ℕ → ℕ → Option Part
+held_by n a e = cond (eqb n 1) (Some (record { start = a; end = e })) None
 
 -- the state in words
 unfoldable pub state_in : List ℕ → State

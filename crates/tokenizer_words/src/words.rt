@@ -17,7 +17,7 @@ ghost use Rattle.tokenizer_words.specs.Words.{
 };
 
 use text::Part;
-use tokenizer::{Held, State, held_fits, part_fits};
+use tokenizer::{State, held_fits, part_fits};
 
 // Whether the words are a state's.
 pub fn is_readable(w: &[usize]) -> bool
@@ -30,13 +30,13 @@ pub fn is_readable(w: &[usize]) -> bool
 }
 
 // What is held, by its three words.
-pub fn held_by(held: usize, start: usize, end: usize) -> Held
+pub fn held_by(held: usize, start: usize, end: usize) -> Option<Part>
     ensures { result ≡ held_by held start end }
 {
     if held == 1 {
-        Held::At(Part { start, end })
+        Some(Part { start, end })
     } else {
-        Held::Nothing
+        None
     }
 }
 
@@ -61,17 +61,13 @@ fn fits_in(n: usize, w: &[usize]) -> bool
     if State::MAX_OPEN < w[8] {
         return false;
     }
-    let mut open_fit = true;
-    let mut i = 0;
-    while i < w[8] {
+    (0..w[8]).all(|i| {
         let p = Part {
             start: w[9 + 2 * i],
             end: w[10 + 2 * i],
         };
-        open_fit = open_fit & part_fits(p, n);
-        i += 1;
-    }
-    open_fit
+        part_fits(p, n)
+    })
 }
 
 // Whether the words are a state's, and it fits a document of n bytes.
@@ -92,12 +88,12 @@ pub fn flag_of(b: bool) -> usize
 }
 
 // The words of what is held.
-pub fn held_words(h: Held) -> [usize; 3]
+pub fn held_words(h: Option<Part>) -> [usize; 3]
     ensures { result ≡ held_words h }
 {
     match h {
-        Held::Nothing => [0, 0, 0],
-        Held::At(p) => [1, p.start, p.end],
+        None => [0, 0, 0],
+        Some(p) => [1, p.start, p.end],
     }
 }
 
@@ -131,11 +127,7 @@ pub fn paste(src: &[usize], at: usize, dst: &mut [usize])
     if dst.len() - at < src.len() {
         return;
     }
-    let mut i = 0;
-    while i < src.len() {
-        dst[at + i] = src[i];
-        i += 1;
-    }
+    dst[at..at + src.len()].copy_from_slice(src);
 }
 
 // Writes the slots, two words each, after the nine.
@@ -143,12 +135,9 @@ fn put_indents(indents: [Part; 64], w: &mut [usize])
     requires { tokenizer_size ≤ length w.old }
     ensures { w.new ≡ pasted (part_words indents) 9 w.old }
 {
-    let mut k = 0;
-    while k < 64 {
-        let p = indents[k];
+    for (k, p) in indents.iter().enumerate() {
         w[9 + 2 * k] = p.start;
         w[10 + 2 * k] = p.end;
-        k += 1;
     }
 }
 

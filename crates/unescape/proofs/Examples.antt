@@ -15,9 +15,11 @@ use Rattle.unescape_source.specs.Source.{source_of, sound, source_in}
 use Rattle.unescape_pieces.specs.declared.start.Style.{Style}
 use Rattle.unescape_pieces.specs.declared.start.Style.TheVariants.{AsIs, Entry, Block}
 use Rattle.unescape_pieces.proofs.Examples.{rules}
-use Rattle.unescape.specs.Unescape.{Unescaped, delivered, unescape_of}
+use Rattle.unescape.specs.Unescape.{Unescaped, refused_at, delivered, unescape_of}
 use Rattle.unescape.specs.Texts.{style_of, unescape_text_of}
-use Rattle.unescape.specs.declared.Answer.TheVariants.{Plain, Written, Refused}
+use Rattle.unescape.specs.declared.answer.Answer.TheVariants.{Plain, Written}
+use Rattle.std.specs.Prelude.{Ok}
+use Rattle.text.specs.declared.refusals.Refusal.TheVariants.{InvalidEscape, ExtraCharacters, UnclosedQuotes, UnfitToken, ShortBuffer}
 
 -- a value on line 1 that is a whole document, with six bytes of room
 abbrev pub value : List ℕ → Unescaped
@@ -29,50 +31,50 @@ unfolding rules owes utf8 line_of meaning source_of sound source_in delivered un
 unescaped d t o = unescape_of d t o
 
 -- `"\{0010FFFF}"` is written
-pub last_scalar : value (ascii "\"\\{0010FFFF}\"") ≡ record { answer = Written 4; buffer = 0xF4 ∷ 0x8F ∷ 0xBF ∷ 0xBF ∷ ascii ".." }
+pub last_scalar : value (ascii "\"\\{0010FFFF}\"") ≡ record { answer = Ok (Written 4); buffer = 0xF4 ∷ 0x8F ∷ 0xBF ∷ 0xBF ∷ ascii ".." }
 unfolding unescaped
 last_scalar = refl
 
 -- `"\{00110000}"` and `"\{000000041}"` are 8, and show the whole code
-pub past_last : value (ascii "\"\\{00110000}\"") ≡ record { answer = Refused 8 1 (part 1 12); buffer = ascii "......" }
+pub past_last : value (ascii "\"\\{00110000}\"") ≡ record { answer = refused_at InvalidEscape 1 (part 1 12); buffer = ascii "......" }
 unfolding unescaped
 past_last = refl
 
-pub nine_digits : value (ascii "\"\\{000000041}\"") ≡ record { answer = Refused 8 1 (part 1 13); buffer = ascii "......" }
+pub nine_digits : value (ascii "\"\\{000000041}\"") ≡ record { answer = refused_at InvalidEscape 1 (part 1 13); buffer = ascii "......" }
 unfolding unescaped
 nine_digits = refl
 
 -- `"` is 11, `"a"b` 10
-pub unclosed : value (ascii "\"") ≡ record { answer = Refused 11 1 (part 0 0); buffer = ascii "......" }
+pub unclosed : value (ascii "\"") ≡ record { answer = refused_at UnclosedQuotes 1 (part 0 0); buffer = ascii "......" }
 unfolding unescaped
 unclosed = refl
 
-pub extra : value (ascii "\"a\"b") ≡ record { answer = Refused 10 1 (part 0 0); buffer = ascii "......" }
+pub extra : value (ascii "\"a\"b") ≡ record { answer = refused_at ExtraCharacters 1 (part 0 0); buffer = ascii "......" }
 unfolding unescaped
 extra = refl
 
 -- an indentation of two spaces, then `x` CR LF `   y` LF ` ` LF `  z`
 pub four_lines : unescape_of (ascii "  x\r\n   y\n \n  z") (MultilineValue 1 (part 0 2) (part 2 15)) (ascii "........")
-    ≡ record { answer = Written 7; buffer = ascii "x\n y\n\nz." }
+    ≡ record { answer = Ok (Written 7); buffer = ascii "x\n y\n\nz." }
 unfolding unescaped
 four_lines = refl
 
 -- a buffer that the text just fits is filled; one a byte shorter is 14 on the token's line, and stays
-just-fits : unescape_of (ascii "\"\\n\\t\"") (Value 3 (part 0 6)) (ascii "..") ≡ record { answer = Written 2; buffer = ascii "\n\t" }
+just-fits : unescape_of (ascii "\"\\n\\t\"") (Value 3 (part 0 6)) (ascii "..") ≡ record { answer = Ok (Written 2); buffer = ascii "\n\t" }
 unfolding unescaped
 just-fits = refl
 
-too_short : unescape_of (ascii "\"\\n\\t\"") (Value 3 (part 0 6)) (ascii ".") ≡ record { answer = Refused 14 3 (part 0 0); buffer = ascii "." }
+too_short : unescape_of (ascii "\"\\n\\t\"") (Value 3 (part 0 6)) (ascii ".") ≡ record { answer = refused_at ShortBuffer 3 (part 0 0); buffer = ascii "." }
 unfolding unescaped
 too_short = refl
 
 -- a plain part stands where it stands, and needs no room
-plain-part : unescape_of (ascii "a = b") (Value 1 (part 4 5)) [] ≡ record { answer = Plain (part 4 5); buffer = [] }
+plain-part : unescape_of (ascii "a = b") (Value 1 (part 4 5)) [] ≡ record { answer = Ok (Plain (part 4 5)); buffer = [] }
 unfolding unescaped
 plain-part = refl
 
 -- a part that ends past the document is 13
-unfit : unescape_of (ascii "a") (Value 2 (part 0 2)) (ascii ".") ≡ record { answer = Refused 13 2 (part 0 0); buffer = ascii "." }
+unfit : unescape_of (ascii "a") (Value 2 (part 0 2)) (ascii ".") ≡ record { answer = refused_at UnfitToken 2 (part 0 0); buffer = ascii "." }
 unfolding unescaped
 unfit = refl
 
@@ -81,17 +83,17 @@ abbrev given : Style → List ℕ → List ℕ → Unescaped
 given r s o = unescape_text_of r s (ascii "  ") 5 o
 
 -- `"ab"` is plain, and its place is counted from the text's start
-given-plain : given Entry (ascii "\"ab\"") [] ≡ record { answer = Plain (part 1 3); buffer = [] }
+given-plain : given Entry (ascii "\"ab\"") [] ≡ record { answer = Ok (Plain (part 1 3)); buffer = [] }
 unfolding unescaped
 given-plain = refl
 
 -- `"a\q"` is 8 on the given line, and shows `\q`
-given-code : given Entry (ascii "\"a\\q\"") (ascii "..") ≡ record { answer = Refused 8 5 (part 2 4); buffer = ascii ".." }
+given-code : given Entry (ascii "\"a\\q\"") (ascii "..") ≡ record { answer = refused_at InvalidEscape 5 (part 2 4); buffer = ascii ".." }
 unfolding unescaped
 given-code = refl
 
 -- `x` LF `  y` loses the indentation
-given-lines : given Block (ascii "x\n  y") (ascii "....") ≡ record { answer = Written 3; buffer = ascii "x\ny." }
+given-lines : given Block (ascii "x\n  y") (ascii "....") ≡ record { answer = Ok (Written 3); buffer = ascii "x\ny." }
 unfolding unescaped
 given-lines = refl
 

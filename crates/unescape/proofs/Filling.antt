@@ -3,12 +3,13 @@ use Prim.Native.Nat.{ℕ, suc, ◌+◌, ◌-◌, ◌≤◌, ◌<◌}
 use mathlib.Core.Path.{◌≡◌, refl, sym, ◌∙◌}
 use mathlib.Core.List.{List, [], ◌++◌, append_assoc, append-nil}
 use native.Mathlib.Numerals.{add-one}
-use native.Mathlib.Nat.{le_antisymm, sub-zero}
+use native.Mathlib.Nat.{sub-zero}
 use native.Mathlib.Omega.{arith}
 use lib.ListN.{length, take, drop, get_or, set, length-drop, length-append, drop_of_length-le, take-append-drop}
-use lib.Seq.{take-suc, drop-cons, drop-drop, set_at, take_at, drop_at, length-take-le, take-length}
+use lib.Seq.{take-suc, drop-cons, set_at, drop-drop, take_at, drop_at, length-take-le}
 use Rattle.text.proofs.Front.{from}
-use Rattle.unescape_pieces.specs.Meaning.{Meaning, part, bytes, code, refused, written}
+use Rattle.unescape_pieces.specs.Meaning.{Meaning, part, bytes, refused, written}
+use Rattle.unescape_pieces.specs.declared.fault.Fault.{Fault}
 use Rattle.unescape.specs.Walk.{WrittenFits, buffer_after}
 
 -- one byte more of s
@@ -19,28 +20,22 @@ copied s o out i h k e =
     (set_at (take i s) (get_or o i 0) (drop (suc i) o) (get_or s i 0) i (length-take-le i s (omega arith))
     ∙ rw (add-one, take-suc s i 0 h, append_assoc))
 
-pub all-copied : (s o : List ℕ) (i : ℕ) → i ≤ length s → length s ≤ i → take i s ++ drop i o ≡ s ++ drop (length s) o
-all-copied s o i h k = let e : i ≡ length s = le_antisymm h k in rw (e, take-length)
-
 -- A meaning whose first bytes are w
 
 pub fits-first : (w : List ℕ) (m : Meaning) (n : ℕ) → WrittenFits (written w m) n → length w ≤ n
 fits-first w (part a e) n h = absurd h
 fits-first w (bytes l) n h = omega (arith, length-append w l)
-fits-first w (code a e) n h = absurd h
-fits-first w (refused r) n h = absurd h
+fits-first w (refused f) n h = absurd h
 
 fits-rest : (w : List ℕ) (m : Meaning) (n k : ℕ) → n ≡ k + length w → WrittenFits (written w m) n → WrittenFits m k
 fits-rest w (part a e) n k q h = h
 fits-rest w (bytes l) n k q h = omega (arith, length-append w l)
-fits-rest w (code a e) n k q h = h
-fits-rest w (refused r) n k q h = h
+fits-rest w (refused f) n k q h = h
 
 filled-first : (w : List ℕ) (m : Meaning) (n : ℕ) (o : List ℕ) → WrittenFits (written w m) n → buffer_after (written w m) o ≡ w ++ buffer_after m (drop (length w) o)
 filled-first w (part a e) n o h = absurd h
 filled-first w (bytes l) n o h = rw (append_assoc, length-append, drop-drop)
-filled-first w (code a e) n o h = absurd h
-filled-first w (refused r) n o h = absurd h
+filled-first w (refused f) n o h = absurd h
 
 -- w put behind the first n bytes
 abbrev pub put_at : List ℕ → ℕ → List ℕ → List ℕ
@@ -89,8 +84,5 @@ pub all-written : {total : List ℕ} {size : ℕ} {m : Meaning} {len : ℕ} {o :
 all-written {len = len} {o = o} c e = sym (c.whole ∙ rw (e, take-append-drop))
 
 -- a meaning that writes nothing is none
-pub no_code : {total : List ℕ} {size : ℕ} {m : Meaning} {len : ℕ} {o : List ℕ} {a b : ℕ} → Wrote total size m len o → m ≡ code a b → ⊥
-no_code c e = rw e at c.fits
-
-pub no-refusal : {total : List ℕ} {size : ℕ} {m : Meaning} {len : ℕ} {o : List ℕ} {r : ℕ} → Wrote total size m len o → m ≡ refused r → ⊥
-no-refusal c e = rw e at c.fits
+pub no-fault : {total : List ℕ} {size : ℕ} {m : Meaning} {len : ℕ} {o : List ℕ} {f : Fault} → Wrote total size m len o → m ≡ refused f → ⊥
+no-fault c e = rw e at c.fits

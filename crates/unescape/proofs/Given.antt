@@ -13,13 +13,17 @@ use Rattle.unescape_pieces.specs.Pieces.{start_of, meaning_from}
 use Rattle.unescape_pieces.specs.declared.pieces.Spot.{Spot}
 use Rattle.unescape_pieces.specs.declared.start.Style.{Style}
 use Rattle.unescape_pieces.specs.declared.start.Start.TheVariants.{Plain as Whole, Pieces}
-use Rattle.unescape.specs.Unescape.{kept_buffer, refusal, delivered}
+use Rattle.unescape.specs.Unescape.{kept_buffer, refused_at, delivered}
 use Rattle.unescape.specs.Texts.{unescape_text_of}
-use Rattle.unescape.specs.declared.Answer.TheVariants.{Plain}
+use Rattle.unescape.specs.declared.answer.Answer.TheVariants.{Plain}
+use Rattle.std.specs.Prelude.{Ok}
+use Rattle.text.specs.declared.bytes.Part.{Part}
+use Rattle.text.specs.declared.refusals.Refusal.TheVariants.{TooLong}
+use Rattle.tokenizer.specs.Step.{no_part}
 use Rattle.unescape.proofs.Delivery.{plain-delivered, pieces-delivered}
 
 module _ (r : Style) (s i : List ℕ) (l : ℕ) (o : List ℕ) where
-  pub text-over : (ltb 16777216 (length s) || ltb 16777216 (length i)) ≡ true → unescape_text_of r s i l o ≡ kept_buffer (refusal 12 0) o
+  pub text-over : (ltb 16777216 (length s) || ltb 16777216 (length i)) ≡ true → unescape_text_of r s i l o ≡ kept_buffer (refused_at TooLong 0 no_part) o
   unfolding unescape_text_of
   text-over e = rw e
 
@@ -28,8 +32,8 @@ module _ (r : Style) (s i : List ℕ) (l : ℕ) (o : List ℕ) where
     unfolding unescape_text_of
     text-within = rw e
 
-    pub text-plain : {a z : ℕ} → start_of r s ≡ Whole a z → unescape_text_of r s i l o ≡ kept_buffer (Plain (record { start = a; end = z })) o
-    text-plain {a} {z} q = text-within ∙ plain-delivered r s i o 0 l q ∙ rw (zero-add a, zero-add z)
+    pub text-plain : {p : Part} → start_of r s ≡ Whole p → unescape_text_of r s i l o ≡ kept_buffer (Ok (Plain p)) o
+    text-plain {p} q = text-within ∙ plain-delivered r s i o 0 l q ∙ rw (zero-add p.start, zero-add p.end)
 
     pub text-pieces : {n : ℕ} {spot : Spot} → start_of r s ≡ Pieces n spot
         → unescape_text_of r s i l o ≡ delivered (meaning_from spot i (drop n s) n) 0 l o

@@ -1,6 +1,5 @@
 pub mod Filling
 pub mod Measuring
-pub mod Writing
 pub mod Delivery
 pub mod Ruling
 pub mod Examples

@@ -1,54 +1,37 @@
--- A turn of the loop that measures: what it counts is the length of what was passed.
-use Prim.Native.Nat.{ℕ, ◌+◌, ◌-◌, ◌*◌, ◌≤◌}
-use mathlib.Core.Path.{◌≡◌, refl, sym, ap, ◌∙◌}
-use mathlib.Core.List.{List, [], ◌++◌}
-use native.Mathlib.Omega.{arith}
-use lib.ListN.{length, take, drop, length-append}
-use Rattle.utf8.specs.Scalar.{encoding_of}
-use Rattle.utf8.proofs.Encodings.{encoding-le}
-use Rattle.unescape_pieces.specs.Meaning.{Meaning}
-use Rattle.unescape_pieces.specs.Pieces.{next_of, meaning_from}
-use Rattle.unescape_pieces.specs.declared.pieces.Spot.{Spot}
-use Rattle.unescape_pieces.specs.declared.pieces.Piece.TheVariants.{Run, Scalar, End, Code, Refused}
-use Rattle.unescape_pieces.specs.declared.pieces.Next.{Next}
-use Rattle.unescape_pieces.proofs.Turns.{run-moves, scalar-passes, run_length}
-use Rattle.unescape_pieces.proofs.Walked.{Walked, begins, on-run, on-scalar, at-end, at_code, at-refused}
+-- A meaning's measure: a piece in front adds its length.
+use Prim.Native.Nat.{ℕ, ◌+◌}
+use mathlib.Core.Path.{◌≡◌, refl}
+use mathlib.Core.List.{List, []}
+use native.Mathlib.Nat.{zero-add, add-zero, add_assoc}
+use lib.ListN.{length, length-append}
+use Rattle.std.specs.Prelude.{Result, Ok, Err}
+use Rattle.unescape_pieces.specs.Meaning.{Meaning, part, bytes, refused, written}
+use Rattle.unescape_pieces.specs.Cursor.{meaning_of, slice_of, Passes}
+use Rattle.unescape_pieces.specs.declared.fault.Fault.{Fault}
+use Rattle.unescape_pieces.specs.declared.cursor.Bytes.{Bytes}
+use Rattle.unescape_pieces.specs.declared.cursor.Cursor.{Cursor}
 use Rattle.unescape.specs.Walk.{measured_of}
-use Rattle.unescape.specs.declared.walk.Measured.TheVariants.{Length}
-use Rattle.unescape.specs.declared.walk.Measured.TheVariants.{Code as CodeAt, Refused as RefusedBy}
 
--- the bytes that were passed are `len`, at most four for each byte of the text, so that the count has room
-pub record Counted (whole : Meaning) (indent s : List ℕ) (at : ℕ) (spot : Spot) (len : ℕ) : Type 0 where
-  pub passed : List ℕ
-  pub walked : Walked whole indent s at spot passed
-  pub size : len ≡ length passed
-  pub few : len ≤ 4 * at
+-- n bytes and then as many as that
+abbrev pub more : ℕ → Result ℕ Fault → Result ℕ Fault
+more n (Ok k) = Ok (n + k)
+more n (Err f) = Err f
 
-pub none-counted : (indent s : List ℕ) (at : ℕ) (spot : Spot) → at ≤ length s → Counted (meaning_from spot indent (drop at s) at) indent s at spot 0
-none-counted indent s at spot h = record { passed = []; walked = begins indent s at spot h; size = refl; few = omega arith }
+pub none : (m : Meaning) → measured_of m ≡ more 0 (measured_of m)
+none (part a e) = refl
+none (bytes l) = rw zero-add
+none (refused f) = refl
 
-module _ {whole : Meaning} (indent s : List ℕ) {at : ℕ} {spot : Spot} {len : ℕ} (c : Counted whole indent s at spot len) {x : Next} (q : x ≡ next_of spot indent (drop at s)) where
-  pub count-run : {k : ℕ} → x.piece ≡ Run k → Counted whole indent s (at + x.pass) x.spot (len + (x.pass - k))
-  count-run {k} p = record {
-    passed = c.passed ++ drop k (take x.pass (drop at s));
-    walked = on-run indent s c.walked q p;
-    size = rw (length-append, ← c.size, run_length s at k x.pass (run-moves indent s at spot x q c.walked.within p).within);
-    few = omega (arith, c.few);
-  }
+in-front : (n : ℕ) (w : List ℕ) (m : Meaning) → more n (measured_of (written w m)) ≡ more (n + length w) (measured_of m)
+in-front n w (part a e) = refl
+in-front n w (bytes l) = rw (length-append, add_assoc)
+in-front n w (refused f) = refl
 
-  pub count_scalar : {n : ℕ} → x.piece ≡ Scalar n → Counted whole indent s (at + x.pass) x.spot (len + length (encoding_of n))
-  count_scalar {n} p = record {
-    passed = c.passed ++ encoding_of n;
-    walked = on-scalar indent s c.walked q p;
-    size = rw (length-append, ← c.size);
-    few = omega (arith, c.few, encoding-le n, scalar-passes indent s at spot x q c.walked.within p);
-  }
+pub piece-more : {c d : Cursor} {p : Bytes} (x : Passes c d p) (n : ℕ) → more n (measured_of (meaning_of c)) ≡ more (n + length (slice_of p)) (measured_of (meaning_of d))
+piece-more {d = d} {p = p} x n = rw x.means (in-front n (slice_of p) (meaning_of d))
 
-  pub end-measured : x.piece ≡ End → Length len ≡ measured_of whole
-  end-measured p = ap Length c.size ∙ sym (ap measured_of (at-end indent s c.walked q p))
+pub at-end : (n : ℕ) {m : Meaning} → m ≡ bytes [] → more n (measured_of m) ≡ Ok n
+at-end n e = rw (e, add-zero)
 
-  pub code-measured : {k : ℕ} → x.piece ≡ Code k → CodeAt at (at + k) ≡ measured_of whole
-  code-measured p = sym (ap measured_of (at_code indent s c.walked q p))
-
-  pub refused-measured : {r : ℕ} → x.piece ≡ Refused r → RefusedBy r ≡ measured_of whole
-  refused-measured p = sym (ap measured_of (at-refused indent s c.walked q p))
+pub at_fault : (n : ℕ) {m : Meaning} {f : Fault} → m ≡ refused f → more n (measured_of m) ≡ Err f
+at_fault n e = rw e

@@ -2,13 +2,15 @@
 ghost use Rattle.std.specs.Prelude.{◌≡◌};
 ghost use Rattle.unescape.specs.Texts.{style_of, unescape_text_of};
 
-use crate::Answer;
-use crate::tokens::{refuse, rewrite};
-use text::Part;
+use crate::answer::{Answer, Error};
+use crate::tokens::rewrite;
+use text::{Refusal, SyntaxError};
 use tokenizer::State;
-use unescape_pieces::{Start, Style, start_of};
+use unescape_pieces::{Cursor, Start, Style, start_of};
 
-// How the text of a token of a kind is read: a key or a value, a multiline value, and any other.
+// How the text of a token of a kind is read: a key or a value, a multiline value, and any other. The kind is a number, as
+// a row from C has it.
+#[tactic(auto, unfolding(crate::specs::Texts::style_of))]
 pub fn style_of(kind: usize) -> Style
     ensures { result ≡ style_of kind }
 {
@@ -20,18 +22,35 @@ pub fn style_of(kind: usize) -> Style
     }
 }
 
-// The text s, places counted from its start: 12 on line 0 where it or the indentation is over a document's limit; then
+// The text, places counted from its start: 12 on line 0 where it or the indentation is over a document's limit; then
 // 8 to 11, then 14, on the given line. The buffer keeps every byte but those of a text that is written. Nothing is tested
 // for UTF-8: what is answered is UTF-8 where the text and the indentation are.
-pub fn unescape_text(style: Style, s: &[u8], indent: &[u8], line: usize, out: &mut [u8]) -> Answer
-    ensures value { result ≡ (unescape_text_of style s.now indent.now line out.old).answer }
-    ensures out_after { out.new ≡ (unescape_text_of style s.now indent.now line out.old).buffer }
+pub fn unescape_text(
+    style: Style,
+    text: &[u8],
+    indent: &[u8],
+    line: usize,
+    out: &mut [u8],
+) -> Result<Answer, Error>
+    ensures value { result ≡ (unescape_text_of style text.now indent.now line out.old).answer }
+    ensures out_after { out.new ≡ (unescape_text_of style text.now indent.now line out.old).buffer }
 {
-    if (State::MAX_DOCUMENT < s.len()) | (State::MAX_DOCUMENT < indent.len()) {
-        return refuse(12, 0);
+    if (State::MAX_DOCUMENT < text.len()) | (State::MAX_DOCUMENT < indent.len()) {
+        return Err(Error::from(SyntaxError {
+            refusal: Refusal::TooLong,
+            line: 0,
+        }));
     }
-    match start_of(style, s) {
-        Start::Plain(start, end) => Answer::Plain(Part { start, end }),
-        Start::Pieces(at, spot) => rewrite(at, spot, s, indent, 0, line, out),
+    match start_of(style, text) {
+        Start::Plain(p) => Ok(Answer::Plain(p)),
+        Start::Pieces(at, spot) => {
+            let cursor = Cursor {
+                text,
+                indent,
+                at,
+                spot,
+            };
+            rewrite(cursor, 0, line, out)
+        }
     }
 }

@@ -1,109 +1,118 @@
 // Unescaping a token of a document.
-ghost use Rattle.std.specs.Prelude.{◌≡◌, ◌+◌, ◌≤◌, length, drop};
+ghost use Rattle.std.specs.Prelude.{◌≡◌, ◌+◌, ◌-◌, ◌≤◌, length};
 ghost use Rattle.text.specs.Numbers.{max_document};
 ghost use Rattle.unescape_pieces.specs.Meaning.{meaning};
-ghost use Rattle.unescape_pieces.specs.Pieces.{start_of, meaning_from};
-ghost use Rattle.unescape.specs.Unescape.{refusal, delivered, unescape_of, plain_of};
-ghost use Rattle.unescape.specs.Walk.{plain_by};
+ghost use Rattle.unescape_pieces.specs.Pieces.{start_of};
+ghost use Rattle.unescape_pieces.specs.Cursor.{Shows, meaning_of};
+ghost use Rattle.unescape.specs.Unescape.{delivered, unescape_of, plain_of};
+ghost use Rattle.unescape.specs.Walk.{plain_by, faulty};
 
-use crate::Answer;
-use crate::walk::{Measured, measure, write};
-use text::Part;
+use crate::answer::{Answer, Error};
+use crate::walk::{measure, write};
+use text::{Part, Refusal, SyntaxError};
 use tokenizer::Token;
-use unescape_pieces::{Spot, Start, Style, start_of};
-use unescape_source::{Checked, source_in};
+use unescape_pieces::{Cursor, Fault, Start, Style, start_of};
+use unescape_source::source_in;
 
-// A refusal that shows no part.
-pub(crate) fn refuse(number: usize, line: usize) -> Answer
-    ensures { result ≡ refusal number line }
+// The refusal of a text that starts at `from` and means nothing.
+fn refused(fault: Fault, from: usize, line: usize) -> Error
+    requires { Shows (18446744073709551615 - from) fault }
+    ensures { result ≡ faulty fault from line }
 {
-    Answer::Refused(number, line, Part { start: 0, end: 0 })
+    let error = SyntaxError {
+        refusal: Refusal::from(fault),
+        line,
+    };
+    match fault {
+        Fault::InvalidEscape(p) => Error {
+            error,
+            shown: Part {
+                start: from + p.start,
+                end: from + p.end,
+            },
+        },
+        _ => Error::from(error),
+    }
 }
 
-// The pieces of a text that starts at `from`, from `at` on. They are measured before they are written, so that a refusal
+// The pieces of a text that starts at `from`, from a cursor on. They are measured before they are written, so that a refusal
 // leaves the buffer alone. Called from two places, this stays out of the compiled way of a plain text, which most are.
 pub(crate) fn rewrite(
-    at: usize,
-    spot: Spot,
-    s: &[u8],
-    indent: &[u8],
+    cursor: Cursor,
     from: usize,
     line: usize,
     out: &mut [u8],
-) -> Answer
-    requires s_bound { from + length s.now ≤ max_document }
-    requires at_in_bounds { at ≤ length s.now }
-    ensures value { result ≡ (delivered (meaning_from spot indent.now (drop at s.now) at) from line out.old).answer }
-    ensures out_after { out.new ≡ (delivered (meaning_from spot indent.now (drop at s.now) at) from line out.old).buffer }
+) -> Result<Answer, Error>
+    requires { from + length cursor.text.now ≤ max_document }
+    ensures value { result ≡ (delivered (meaning_of cursor.entry) from line out.old).answer }
+    ensures out_after { out.new ≡ (delivered (meaning_of cursor.entry) from line out.old).buffer }
 {
-    match measure(at, spot, indent, s) {
-        Measured::Length(n) => {
-            if out.len() < n {
-                return refuse(14, line);
-            }
-            write(at, spot, indent, s, out);
-            Answer::Written(n)
-        }
-        Measured::Code(a, e) => Answer::Refused(
-            8,
+    let n = match measure(cursor) {
+        Ok(n) => n,
+        Err(fault) => return Err(refused(fault, from, line)),
+    };
+    if out.len() < n {
+        return Err(Error::from(SyntaxError {
+            refusal: Refusal::ShortBuffer,
             line,
-            Part {
-                start: from + a,
-                end: from + e,
-            },
-        ),
-        Measured::Refused(n) => refuse(n, line),
+        }));
     }
+    write(cursor, out);
+    Ok(Answer::Written(n))
 }
 
 // A text that starts at `from`, as it is read.
 pub(crate) fn deliver(
     style: Style,
-    s: &[u8],
+    text: &[u8],
     indent: &[u8],
     from: usize,
     line: usize,
     out: &mut [u8],
-) -> Answer
-    requires { from + length s.now ≤ max_document }
-    ensures value { result ≡ (delivered (meaning style s.now indent.now) from line out.old).answer }
-    ensures out_after { out.new ≡ (delivered (meaning style s.now indent.now) from line out.old).buffer }
+) -> Result<Answer, Error>
+    requires { from + length text.now ≤ max_document }
+    ensures value { result ≡ (delivered (meaning style text.now indent.now) from line out.old).answer }
+    ensures out_after { out.new ≡ (delivered (meaning style text.now indent.now) from line out.old).buffer }
 {
-    match start_of(style, s) {
-        Start::Plain(a, e) => Answer::Plain(Part {
-            start: from + a,
-            end: from + e,
-        }),
-        Start::Pieces(at, spot) => rewrite(at, spot, s, indent, from, line, out),
+    match start_of(style, text) {
+        Start::Plain(p) => Ok(Answer::Plain(Part {
+            start: from + p.start,
+            end: from + p.end,
+        })),
+        Start::Pieces(at, spot) => {
+            let cursor = Cursor {
+                text,
+                indent,
+                at,
+                spot,
+            };
+            rewrite(cursor, from, line, out)
+        }
     }
 }
 
 // The token's text: 12 over the document's limit, 13 where a part of it is none of the document's, or not UTF-8; then 8 to 11,
 // then 14. The buffer keeps every byte but those of a text that is written.
-pub fn unescape(t: Token, doc: &[u8], out: &mut [u8]) -> Answer
+pub fn unescape(t: Token, doc: &[u8], out: &mut [u8]) -> Result<Answer, Error>
     ensures value { result ≡ (unescape_of doc.now t out.old).answer }
     ensures out_after { out.new ≡ (unescape_of doc.now t out.old).buffer }
 {
-    match source_in(t, doc) {
-        Checked::Refused(number, line) => refuse(number, line),
-        Checked::Readable(w) => {
-            let style = w.style;
-            let text = w.text;
-            let indent = w.indent;
-            let from = text.start;
-            let to = text.end;
-            let indent_from = indent.start;
-            let indent_to = indent.end;
-            deliver(
-                style,
-                &doc[from..to],
-                &doc[indent_from..indent_to],
-                from,
-                t.line_number(),
-                out,
-            )
-        }
-    }
+    let w = source_in(t, doc)?;
+    let style = w.style;
+    let text = w.text;
+    let indent = w.indent;
+    let from = text.start;
+    let to = text.end;
+    let indent_from = indent.start;
+    let indent_to = indent.end;
+    deliver(
+        style,
+        &doc[from..to],
+        &doc[indent_from..indent_to],
+        from,
+        t.line_number(),
+        out,
+    )
 }
 
 // The part of a text that is plain, else the empty one.
@@ -111,7 +120,7 @@ fn plain_part<'a>(style: Style, s: &'a [u8]) -> &'a [u8]
     ensures { result.now ≡ plain_by (start_of style s.now) s.now }
 {
     match start_of(style, s) {
-        Start::Plain(a, e) => &s[a..e],
+        Start::Plain(p) => &s[p.start..p.end],
         Start::Pieces(_, _) => &s[..0],
     }
 }
@@ -120,7 +129,7 @@ fn plain_part<'a>(style: Style, s: &'a [u8]) -> &'a [u8]
 pub fn plain<'a>(t: Token, doc: &'a [u8]) -> &'a [u8]
     ensures { result.now ≡ plain_of doc.now t }
 {
-    let Checked::Readable(w) = source_in(t, doc) else {
+    let Ok(w) = source_in(t, doc) else {
         return &doc[..0];
     };
     let style = w.style;

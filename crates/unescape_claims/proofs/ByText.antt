@@ -23,9 +23,9 @@ use Rattle.tokenizer.specs.declared.token.Token.TheVariants.{
   MultilineValue,
   NoValue,
 }
-use Rattle.unescape_pieces.specs.Meaning.{Meaning, part, bytes, code, refused, meaning}
+use Rattle.unescape_pieces.specs.Meaning.{Meaning, part, bytes, refused, meaning}
+use Rattle.unescape_pieces.specs.declared.fault.Fault.TheVariants.{InvalidEscape, EscapeAtEnd, ExtraCharacters, UnclosedQuotes}
 use Rattle.unescape_source.specs.Source.{source_of}
-use Rattle.unescape_pieces.proofs.Proper.{Proper, meaning-proper}
 use Rattle.unescape.specs.Unescape.{delivered}
 use Rattle.unescape.specs.Texts.{style_of}
 use Rattle.unescape_source.proofs.Sound.{sound-length, both-sound}
@@ -38,7 +38,7 @@ unfolding style_of token_values source_of
 kinds-read (Newline l) = refl
 kinds-read (Comment l p) = refl
 kinds-read (Indent l) = refl
-kinds-read (Outdent l) = refl
+kinds-read (Outdent l o) = refl
 kinds-read (ListItem l) = refl
 kinds-read (MapKey l p) = refl
 kinds-read (Value l p) = refl
@@ -47,12 +47,14 @@ kinds-read (MultilineValue l i p) = refl
 kinds-read (NoValue l) = refl
 
 -- a meaning delivered at n is the same delivered at 0, with n added
-from_start : (m : Meaning) (k n l : ℕ) (o : List ℕ) → Proper k m → delivered m n l o ≡ unescaped_from n (delivered m 0 l o)
+from_start : (m : Meaning) (n l : ℕ) (o : List ℕ) → delivered m n l o ≡ unescaped_from n (delivered m 0 l o)
 unfolding delivered
-from_start (part a e) k n l o h = rw (zero-add a, zero-add e)
-from_start (bytes w) k n l o h = by_bool (leb (length w) (length o)) (λ e. rw e) (λ e. rw e)
-from_start (code a e) k n l o h = rw (zero-add a, zero-add e)
-from_start (refused r) k n l o h = rw h.0
+from_start (part a e) n l o = rw (zero-add a, zero-add e)
+from_start (bytes w) n l o = by_bool (leb (length w) (length o)) (λ e. rw e) (λ e. rw e)
+from_start (refused (InvalidEscape p)) n l o = rw (zero-add p.start, zero-add p.end)
+from_start (refused EscapeAtEnd) n l o = refl
+from_start (refused ExtraCharacters) n l o = refl
+from_start (refused UnclosedQuotes) n l o = refl
 
 pub tokens-by-text : TokensByText
 tokens-by-text d t o h e f =
@@ -60,5 +62,5 @@ tokens-by-text d t o h e f =
     let s = bytes_of d w.text in
     let i = bytes_of d w.indent in
     ruled d t o (sym (both-sound d t w refl h refl refl (rw (e, f)))) refl
-    ∙ from_start (meaning w.style s i) (length s) w.text.start (line_of t) o (meaning-proper w.style s i)
+    ∙ from_start (meaning w.style s i) w.text.start (line_of t) o
     ∙ rw (text-within w.style s i (line_of t) o (rw (le-ltb 16777216 (length s) (omega (arith, sound-length d w.text e)), le-ltb 16777216 (length i) (omega (arith, sound-length d w.indent f)))))

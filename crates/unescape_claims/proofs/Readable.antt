@@ -24,7 +24,7 @@ use Rattle.tokenizer.specs.declared.token.Token.TheVariants.{
 }
 use Rattle.tokenizer_claims.specs.Claims.{Text, PartsFit}
 use Rattle.unescape_source.specs.Source.{source_of, sound, source_in}
-use Rattle.unescape_source.specs.declared.source.Checked.TheVariants.{Readable}
+use Rattle.std.specs.Prelude.{Ok}
 use Rattle.unescape_claims.specs.Readable.{TokensRead}
 
 text-sound : (d : List ℕ) (q : Part) → Text d q → sound d q ≡ true
@@ -41,7 +41,7 @@ unfolding source_of
 texts-fit N d (Newline m) f = (none-text d, none-text d)
 texts-fit N d (Comment m q) f = (f, none-text d)
 texts-fit N d (Indent m) f = (none-text d, none-text d)
-texts-fit N d (Outdent m) f = (none-text d, none-text d)
+texts-fit N d (Outdent m o) f = (none-text d, none-text d)
 texts-fit N d (ListItem m) f = (none-text d, none-text d)
 texts-fit N d (MapKey m q) f = (f, none-text d)
 texts-fit N d (Value m q) f = (f, none-text d)
@@ -50,7 +50,7 @@ texts-fit N d (MultilineValue m i q) f = (f.1, f.0)
 texts-fit N d (NoValue m) f = (none-text d, none-text d)
 
 pub texts-read : (d : List ℕ) (t : Token) → length d ≤ 16777216 → Text d (source_of t).text × Text d (source_of t).indent
-    → source_in d t ≡ Readable (source_of t)
+    → source_in d t ≡ Ok (source_of t)
 unfolding source_in
 texts-read d t l f =
     rw (le-ltb 16777216 (length d) l, text-sound d (source_of t).text f.0, text-sound d (source_of t).indent f.1)

@@ -8,7 +8,11 @@ use native.Mathlib.Omega.{arith}
 use lib.Dec.{eqb, leb, ltb}
 use lib.ListN.{length, drop, length-append, length-drop, length-take}
 use borrow.Author.Tests.{leb-false}
-use Rattle.text.specs.Bytes.{is_break, count_while, not_break, starts_with}
+use Rattle.text.specs.Bytes.{is_break, not_break, starts_with}
+use Rattle.std.specs.List.{prefix_len}
+use Rattle.std.specs.Prelude.{Result, Ok, Err}
+use Rattle.text.specs.Numbers.{number_of}
+use Rattle.text.specs.declared.refusals.SyntaxError.{SyntaxError}
 use Rattle.utf8.specs.Utf8.{within, lead_of, owes, utf8}
 use Rattle.text.proofs.Cases.{on-cond}
 use Rattle.tokenizer.specs.Token.{line_of}
@@ -18,7 +22,6 @@ use Rattle.unescape_pieces.specs.Meaning.{
   Meaning,
   part,
   bytes,
-  code,
   refused,
   on_first,
   is_empty,
@@ -30,12 +33,14 @@ use Rattle.unescape_pieces.specs.Meaning.{
   meaning,
 }
 use Rattle.unescape_source.specs.Source.{source_of, sound, source_in}
-use Rattle.unescape_source.specs.declared.source.Checked.{Checked}
+use Rattle.unescape_source.specs.declared.source.Source.{Source}
+use Rattle.unescape_pieces.specs.declared.fault.Fault.TheVariants.{InvalidEscape, EscapeAtEnd, ExtraCharacters, UnclosedQuotes}
 use Rattle.unescape_pieces.specs.declared.start.Style.{Style}
 use Rattle.unescape_pieces.specs.declared.start.Style.TheVariants.{AsIs, Entry, Block}
 use Rattle.unescape.specs.Unescape.{Unescaped, delivered, source_delivered, unescape_of}
-use Rattle.unescape.specs.declared.Answer.{Answer}
-use Rattle.unescape.specs.declared.Answer.TheVariants.{Plain, Written, Refused}
+use Rattle.unescape.specs.declared.answer.Answer.{Answer}
+use Rattle.unescape.specs.declared.answer.Answer.TheVariants.{Plain, Written}
+use Rattle.unescape.specs.declared.answer.Error.{Error}
 use Rattle.unescape_claims.specs.Claims.{text_size, Shorter, Enough, Met}
 use Rattle.unescape_claims.proofs.Entries.{AtMost, raised, entry-most}
 
@@ -105,7 +110,7 @@ module _ (indent : List ℕ) where
   block-most : (s : List ℕ) → AtMost (length s) (block_meaning indent s)
   unfolding block_meaning
   block-most s =
-      on-cond (AtMost (length s)) (eqb (count_while not_break s) (length s))
+      on-cond (AtMost (length s)) (eqb (prefix_len not_break s) (length s))
       (λ _. tt)
       (λ _. omega (arith, joined-most (lines_in s), lines-fill s))
 
@@ -118,10 +123,10 @@ meaning-most Entry s indent = entry-most s
 meaning-most Block s indent = block-most indent s
 
 -- in a buffer o, with room for k bytes where k is the text's length: no more is written, and 14 is for a smaller buffer
-abbrev Kept : ℕ → List ℕ → Answer → Type 0
-Kept k o (Plain p) = Unit {0}
-Kept k o (Written n) = n ≤ k
-Kept k o (Refused n l p) = k ≤ length o → n ≡ 14 → ⊥
+abbrev Kept : ℕ → List ℕ → Result Answer Error → Type 0
+Kept k o (Ok (Plain p)) = Unit {0}
+Kept k o (Ok (Written n)) = n ≤ k
+Kept k o (Err e) = k ≤ length o → number_of e.error.refusal ≡ 14 → ⊥
 
 abbrev KeptIn : ℕ → List ℕ → Unescaped → Type 0
 KeptIn k o u = Kept k o u.answer
@@ -133,8 +138,10 @@ delivered-kept k o (bytes w) n l h =
     on-cond (KeptIn k o) (leb (length w) (length o))
     (λ _. h)
     (λ e j q. absurd (omega (arith, leb-false (length w) (length o) e)))
-delivered-kept k o (code a e) n l h = λ j q. absurd (omega arith)
-delivered-kept k o (refused r) n l h = λ j q. absurd (omega arith)
+delivered-kept k o (refused (InvalidEscape p)) n l h = λ j q. absurd (omega arith)
+delivered-kept k o (refused EscapeAtEnd) n l h = λ j q. absurd (omega arith)
+delivered-kept k o (refused ExtraCharacters) n l h = λ j q. absurd (omega arith)
+delivered-kept k o (refused UnclosedQuotes) n l h = λ j q. absurd (omega arith)
 
 token_kept : (d : List ℕ) (t : Token) (o : List ℕ) → KeptIn (text_size t) o (unescape_of d t o)
 unfolding unescape_of source_in
@@ -146,7 +153,7 @@ token_kept d t o =
     let m = meaning w.style s i in
     let e = length-take k (drop w.text.start d) in
     let f = raised (length s) k m (omega arith) (meaning-most w.style s i) in
-    let F : Checked → Type 0 = λ c. KeptIn k o (source_delivered d c (line_of t) o) in
+    let F : Result Source SyntaxError → Type 0 = λ c. KeptIn k o (source_delivered d c (line_of t) o) in
     on-cond F (ltb 16777216 (length d))
     (λ _ j q. absurd (omega arith))
     (λ _. on-cond F (sound d w.text && sound d w.indent)
@@ -160,5 +167,5 @@ pub enough : Enough
 enough d t o l p h e = (rw e at (token_kept d t o)) h refl
 
 pub met : Met
-unfolding is_break count_while starts_with within lead_of owes utf8 is_empty lines_in later_lines joined_lines block_meaning meaning source_of sound source_in delivered unescape_of
+unfolding is_break starts_with within lead_of owes utf8 is_empty lines_in later_lines joined_lines block_meaning meaning source_of sound source_in delivered unescape_of
 met = refl

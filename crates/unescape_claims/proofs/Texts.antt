@@ -1,23 +1,23 @@
 -- The text of a token is what unescaping shows of it: its meaning, delivered, by what the reading of the text begins with.
 use Prim.Native.Nat.{ℕ, ◌-◌}
 use mathlib.Core.List.{List}
-use mathlib.Core.Bool.{cond, ◌&&◌}
+use mathlib.Core.Bool.{◌&&◌}
 use native.Mathlib.Omega.{arith}
-use lib.Dec.{eqb, leb, ltb}
+use lib.Dec.{leb, ltb}
 use lib.ListN.{length, drop, length-take}
 use borrow.Author.Tests.{leb-true, leb-false}
 use Rattle.text.specs.declared.bytes.Part.{Part}
 use Rattle.text.proofs.Cases.{by_bool}
 use Rattle.tokenizer.specs.Token.{line_of}
-use Rattle.tokenizer.specs.Step.{bytes_of, no_part}
+use Rattle.tokenizer.specs.Step.{bytes_of}
 use Rattle.tokenizer.specs.declared.token.Token.{Token}
-use Rattle.unescape_pieces.specs.Meaning.{Meaning, part, bytes, code, refused, meaning}
+use Rattle.unescape_pieces.specs.Meaning.{Meaning, part, bytes, refused, meaning}
+use Rattle.unescape_pieces.specs.declared.fault.Fault.TheVariants.{InvalidEscape, EscapeAtEnd, ExtraCharacters, UnclosedQuotes}
 use Rattle.unescape_pieces.proofs.Proper.{Proper, meaning-proper}
 use Rattle.unescape_pieces.proofs.Turns.{nested-part}
 use Rattle.unescape_source.specs.Source.{source_of, sound, source_in}
-use Rattle.token_text.specs.Text.{fails, text_by, text_in}
-use Rattle.unescape.specs.Unescape.{kept_buffer, delivered, unescape_of}
-use Rattle.unescape.specs.declared.Answer.TheVariants.{Refused}
+use Rattle.token_text.specs.Text.{text_by, text_in}
+use Rattle.unescape.specs.Unescape.{delivered, unescape_of}
 use Rattle.unescape_claims.specs.Texts.{Told, plain, written, short, fail, TextsTold}
 
 module _ (d : List ℕ) (t : Token) (o : List ℕ) where
@@ -30,10 +30,10 @@ module _ (d : List ℕ) (t : Token) (o : List ℕ) where
       by_bool (leb (length w) (length o))
       (λ e. rw e (written (leb-true (length w) (length o) e)))
       (λ e. rw e (short (leb-false (length w) (length o) e)))
-  told-by p (code a e) h = fail
-  told-by p (refused r) h =
-      let f : Told d t o (fails r no_part) (kept_buffer (Refused r (cond (eqb r 12) 0 (line_of t)) no_part) o) = fail in
-      rw h.2 at f
+  told-by p (refused (InvalidEscape q)) h = fail
+  told-by p (refused EscapeAtEnd) h = fail
+  told-by p (refused ExtraCharacters) h = fail
+  told-by p (refused UnclosedQuotes) h = fail
 
   told : Told d t o (text_in d t) (unescape_of d t o)
   unfolding text_in unescape_of source_in

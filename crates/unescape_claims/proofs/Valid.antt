@@ -15,20 +15,23 @@ use lib.Dec.{eqb, leb}
 use lib.ListN.{length, take, get_or}
 use lib.Seq.{take-length, take-suc}
 use borrow.Author.Tests.{eqb-true}
-use Rattle.text.specs.Bytes.{count_while, not_break, starts_with}
-use Rattle.utf8.specs.Scalar.{is_scalar, encoding}
+use Rattle.text.specs.Bytes.{not_break, starts_with}
+use Rattle.std.specs.List.{prefix_len}
+use Rattle.utf8.specs.Scalar.{encoding}
 use Rattle.utf8.specs.Utf8.{owes, utf8}
 use Rattle.text.proofs.Cases.{on-cond, and_left, and_right}
 use Rattle.utf8.proofs.Joins.{utf8_append, utf8_drop, utf8-cut, utf8-snoc}
 use Rattle.utf8.proofs.Unicode.{utf8-ascii, utf8-encoding}
-use Rattle.unescape_codes.specs.Codes.{code_of, simple_of}
+use Rattle.unescape_codes.specs.Codes.{simple_of}
+use Rattle.unescape_codes.proofs.Cases.{on-option}
+use Rattle.unescape_pieces.specs.declared.fault.Fault.{Fault}
 use Rattle.unescape_pieces.specs.Meaning.{
   Meaning,
   part,
   bytes,
-  code,
   refused,
   written,
+  scalar_in,
   Mode,
   plain,
   escape,
@@ -49,7 +52,7 @@ use Rattle.unescape_pieces.specs.Meaning.{
   meaning,
 }
 use Rattle.unescape_pieces.specs.declared.start.Style.TheVariants.{AsIs, Entry, Block}
-use Rattle.unescape_pieces.proofs.Escapes.{simple}
+use Rattle.unescape_pieces.proofs.Escapes.{simple, scalar-in}
 use Rattle.unescape_claims.specs.Claims.{ValidIn, Valid}
 
 utf8_nil : utf8 [] ≡ true
@@ -75,25 +78,21 @@ ended p u = rw append-nil u
 -- a refusal, or bytes that are valid after p
 data Writes (p : List ℕ) : Meaning → Type 0 where
   wrote : {w : List ℕ} → utf8 (p ++ w) ≡ true → Writes p (bytes w)
-  shown : {a e : ℕ} → Writes p (code a e)
-  none : {n : ℕ} → Writes p (refused n)
+  none : {f : Fault} → Writes p (refused f)
 
 -- the bytes passed are valid themselves
 after : {p : List ℕ} {m : Meaning} → utf8 p ≡ true → Writes [] m → Writes p m
 after {p} u (wrote {w = w} v) = wrote (utf8_append p w u ∙ v)
-after u shown = shown
 after u none = none
 
 -- a byte that is copied
 copied : {p : List ℕ} {m : Meaning} (b : ℕ) → Writes (p ++ b ∷ []) m → Writes p (written (b ∷ []) m)
 copied b (wrote v) = wrote (rw append_assoc at v)
-copied b shown = shown
 copied b none = none
 
 -- characters that are put in place of an escape
 replaced : {m : Meaning} (c : List ℕ) → ((x : List ℕ) → utf8 (c ++ x) ≡ utf8 x) → Writes [] m → Writes [] (written c m)
 replaced c f (wrote {w = w} v) = wrote (f w ∙ v)
-replaced c f shown = shown
 replaced c f none = none
 
 -- the closing quote
@@ -111,7 +110,7 @@ keeps : (r : List ℕ) (d : Mode) (n : ℕ) → Keeps d r (quoted r d n)
 unfolding quoted
 keeps [] plain n = λ p u. none
 keeps [] (escape s) n = λ u. none
-keeps [] (brace s h) n = λ u. shown
+keeps [] (brace s h) n = λ u. none
 keeps (b ∷ r) plain n = λ p u.
     on-cond (Writes p) (eqb b 34)
     (λ t. closing (found p b 34 r t (omega arith) u).0 r)
@@ -121,22 +120,21 @@ keeps (b ∷ r) plain n = λ p u.
 keeps (b ∷ r) (escape s) n = λ u.
     on-cond (Writes []) (eqb b 123)
     (λ t. keeps r (brace s []) (n + 1) (found [] b 123 r t (omega arith) u).1)
-    (λ _. on-cond (Writes []) (eqb (simple_of b) 0)
-    (λ _. shown)
-    (λ t. let k = simple b t in
+    (λ _. on-option (Writes []) (simple_of b)
+    (λ v t. let k = simple b v t in
     let m = keeps r plain (n + 1) [] (sym (utf8-ascii b r k.0) ∙ u) in
-    replaced (simple_of b ∷ []) (λ x. utf8-ascii (simple_of b) x k.1) m))
+    replaced (v ∷ []) (λ x. utf8-ascii v x k.1) m)
+    (λ _. none))
 keeps (b ∷ r) (brace s h) n = λ u.
     on-cond (Writes []) (eqb b 125)
     (λ t. let m = keeps r plain (n + 1) [] (found h b 125 r t (omega arith) u).1 in
-    on-cond (Writes []) (is_scalar (code_of h)) (λ e. replaced (encoding (code_of h)) (utf8-encoding (code_of h) e) m) (λ _. shown))
-    (λ _. on-cond (Writes []) (eqb b 34) (λ _. shown) (λ _. keeps r (brace s (h ++ b ∷ [])) (n + 1) (passed h b r u)))
+    on-option (Writes []) (scalar_in h) (λ v e. replaced (encoding v) (utf8-encoding v (scalar-in h v e)) m) (λ _. none))
+    (λ _. on-cond (Writes []) (eqb b 34) (λ _. none) (λ _. keeps r (brace s (h ++ b ∷ [])) (n + 1) (passed h b r u)))
 
 -- A key or a value
 
 writes-valid : {m : Meaning} (s : List ℕ) → Writes [] m → ValidIn s m
 writes-valid s (wrote v) = v
-writes-valid s shown = tt
 writes-valid s none = tt
 
 -- the text as it stands
@@ -224,7 +222,7 @@ module _ (indent : List ℕ) (i : utf8 indent ≡ true) where
   block-valid : (s : List ℕ) → utf8 s ≡ true → ValidIn s (block_meaning indent s)
   unfolding block_meaning
   block-valid s u =
-      on-cond (ValidIn s) (eqb (count_while not_break s) (length s)) (λ _. whole s u) (λ _. joined-valid (lines_in s) (lines s [] u))
+      on-cond (ValidIn s) (eqb (prefix_len not_break s) (length s)) (λ _. whole s u) (λ _. joined-valid (lines_in s) (lines s [] u))
 
 pub valid : Valid
 unfolding meaning

@@ -1,23 +1,29 @@
 -- Claims that tie the unescaping of given bytes to that of tokens, which is the law: how a token of a kind is read, and
 -- that a token is unescaped as its bytes are (proofs/ByText proves both).
-use Rattle.std.specs.Prelude.{ℕ, ◌≤◌, ◌≡◌, List, true, cond, eqb, length}
+use Rattle.std.specs.Prelude.{ℕ, ◌≤◌, ◌≡◌, List, true, cond, eqb, length, Result, Ok, Err}
 use Rattle.text.specs.Bytes.{shifted_by}
-use Rattle.text.specs.Numbers.{max_document}
+use Rattle.text.specs.Numbers.{max_document, invalid_escape, number_of}
+use Rattle.text.specs.declared.bytes.Part.{Part}
+use Rattle.text.specs.declared.refusals.Refusal.{Refusal}
 use Rattle.tokenizer.specs.Token.{token_values, line_of}
 use Rattle.tokenizer.specs.Step.{bytes_of}
 use Rattle.tokenizer.specs.declared.token.Token.{Token}
 use Rattle.unescape_source.specs.Source.{source_of, sound}
 use Rattle.unescape.specs.Unescape.{Unescaped, unescape_of}
 use Rattle.unescape.specs.Texts.{style_of, unescape_text_of}
-use Rattle.unescape.specs.declared.Answer.{Answer}
-use Rattle.unescape.specs.declared.Answer.TheVariants.{Plain, Written, Refused}
+use Rattle.unescape.specs.declared.answer.Answer.{Answer}
+use Rattle.unescape.specs.declared.answer.Answer.TheVariants.{Plain, Written}
+use Rattle.unescape.specs.declared.answer.Error.{Error}
 
 -- What is said of a text that starts at n in a document, said of the document: n is added to the plain part, and to the
 -- part that a refusal shows, which is 8's alone.
-abbrev pub answer_from : ℕ → Answer → Answer
-answer_from n (Plain p) = Plain (shifted_by n p)
-answer_from n (Written k) = Written k
-answer_from n (Refused r l p) = Refused r l (cond (eqb r 8) (shifted_by n p) p)
+abbrev pub shown_in : ℕ → Refusal → Part → Part
+shown_in n r p = cond (eqb (number_of r) invalid_escape) (shifted_by n p) p
+
+abbrev pub answer_from : ℕ → Result Answer Error → Result Answer Error
+answer_from n (Ok (Plain p)) = Ok (Plain (shifted_by n p))
+answer_from n (Ok (Written k)) = Ok (Written k)
+answer_from n (Err e) = Err (record { error = e.error; shown = shown_in n e.error.refusal e.shown })
 
 abbrev pub unescaped_from : ℕ → Unescaped → Unescaped
 unescaped_from n u = record { answer = answer_from n u.answer; buffer = u.buffer }

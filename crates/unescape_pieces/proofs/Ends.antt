@@ -4,45 +4,52 @@ use mathlib.Core.List.{List, [], ◌∷◌, ◌++◌}
 use native.Mathlib.Omega.{arith}
 use lib.Dec.{eqb}
 use lib.ListN.{length, drop, length-drop}
-use Rattle.utf8.specs.Scalar.{is_scalar, encoding}
+use Rattle.utf8.specs.Scalar.{encoding}
 use Rattle.text.proofs.Cases.{on-cond}
 use Rattle.utf8.proofs.Chars.{char_len-le}
-use Rattle.unescape_codes.specs.Codes.{code_of, simple_of}
-use Rattle.unescape_pieces.specs.Meaning.{Meaning, part, bytes, code, refused, written, Mode, plain, escape, brace, closed, quoted}
+use Rattle.unescape_codes.specs.Codes.{simple_of}
+use Rattle.unescape_codes.proofs.Cases.{on-option}
+use Rattle.unescape_pieces.specs.Meaning.{Meaning, part, bytes, refused, written, scalar_in, Mode, plain, escape, brace, closed, quoted}
 use Rattle.unescape_pieces.specs.Pieces.{meaning_from}
+use Rattle.unescape_pieces.specs.declared.fault.Fault.{Fault}
+use Rattle.unescape_pieces.specs.declared.fault.Fault.TheVariants.{InvalidEscape, EscapeAtEnd, ExtraCharacters, UnclosedQuotes}
 use Rattle.unescape_pieces.specs.declared.pieces.Spot.{Spot}
 use Rattle.unescape_pieces.specs.declared.pieces.Spot.TheVariants.{Quotes, FirstLine, LaterLine, Break}
+use Rattle.unescape_pieces.specs.Cursor.{Shows}
 
--- no part, and a code that ends within k bytes
+-- no part, and an invalid escape that ends within k bytes
 abbrev pub Ends : ℕ → Meaning → Type 0
 Ends k (part a e) = ⊥
 Ends k (bytes w) = Unit {0}
-Ends k (code a e) = (a ≤ k) × (e ≤ k)
-Ends k (refused r) = Unit {0}
+Ends k (refused f) = Shows k f
+
+pub shows_more : (k j : ℕ) (f : Fault) → j ≤ k → Shows j f → Shows k f
+shows_more k j (InvalidEscape p) h x = (omega arith, omega arith)
+shows_more k j EscapeAtEnd h x = tt
+shows_more k j ExtraCharacters h x = tt
+shows_more k j UnclosedQuotes h x = tt
 
 written-ends : (k j : ℕ) (w : List ℕ) (m : Meaning) → j ≤ k → Ends j m → Ends k (written w m)
 written-ends k j w (part a e) h x = x
 written-ends k j w (bytes l) h x = tt
-written-ends k j w (code a e) h x = (omega arith, omega arith)
-written-ends k j w (refused r) h x = tt
+written-ends k j w (refused f) h x = shows_more k j f h x
 
 ends_more : (k j : ℕ) (m : Meaning) → j ≤ k → Ends j m → Ends k m
 ends_more k j (part a e) h x = x
 ends_more k j (bytes l) h x = tt
-ends_more k j (code a e) h x = (omega arith, omega arith)
-ends_more k j (refused r) h x = tt
+ends_more k j (refused f) h x = shows_more k j f h x
 
 closed-ends : (k : ℕ) (r : List ℕ) → Ends k (closed r)
 closed-ends k [] = tt
 closed-ends k (b ∷ r) = tt
 
 -- the backslash of an escape stands before n
-abbrev Before : Mode → ℕ → Type 0
+abbrev pub Before : Mode → ℕ → Type 0
 Before plain n = Unit {0}
 Before (escape s) n = s ≤ n
 Before (brace s h) n = s ≤ n
 
-quoted-ends : (r : List ℕ) (d : Mode) (n : ℕ) → Before d n → Ends (n + length r) (quoted r d n)
+pub quoted-ends : (r : List ℕ) (d : Mode) (n : ℕ) → Before d n → Ends (n + length r) (quoted r d n)
 unfolding quoted
 quoted-ends [] plain n h = tt
 quoted-ends [] (escape s) n h = tt
@@ -57,14 +64,14 @@ quoted-ends (b ∷ r) (escape s) n h =
     let k = n + length (b ∷ r) in
     on-cond (Ends k) (eqb b 123)
     (λ _. ends_more k (n + 1 + length r) (quoted r (brace s []) (n + 1)) (omega arith) (quoted-ends r (brace s []) (n + 1) (omega arith)))
-    (λ _. on-cond (Ends k) (eqb (simple_of b) 0)
-    (λ _. (omega arith, omega (arith, char_len-le (b ∷ r))))
-    (λ _. written-ends k (n + 1 + length r) (simple_of b ∷ []) (quoted r plain (n + 1)) (omega arith) (quoted-ends r plain (n + 1) tt)))
+    (λ _. on-option (Ends k) (simple_of b)
+    (λ v _. written-ends k (n + 1 + length r) (v ∷ []) (quoted r plain (n + 1)) (omega arith) (quoted-ends r plain (n + 1) tt))
+    (λ _. (omega arith, omega (arith, char_len-le (b ∷ r)))))
 quoted-ends (b ∷ r) (brace s l) n h =
     let k = n + length (b ∷ r) in
     on-cond (Ends k) (eqb b 125)
-    (λ _. on-cond (Ends k) (is_scalar (code_of l))
-    (λ _. written-ends k (n + 1 + length r) (encoding (code_of l)) (quoted r plain (n + 1)) (omega arith) (quoted-ends r plain (n + 1) tt))
+    (λ _. on-option (Ends k) (scalar_in l)
+    (λ v _. written-ends k (n + 1 + length r) (encoding v) (quoted r plain (n + 1)) (omega arith) (quoted-ends r plain (n + 1) tt))
     (λ _. (omega arith, omega arith)))
     (λ _. on-cond (Ends k) (eqb b 34)
     (λ _. (omega arith, omega arith))

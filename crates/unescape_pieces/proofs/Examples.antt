@@ -4,11 +4,12 @@ use Prim.Native.Nat.{ℕ}
 use mathlib.Core.Path.{◌≡◌, refl}
 use mathlib.Core.List.{List, [], ◌∷◌}
 use Rattle.text.specs.Ascii.{ascii}
-use Rattle.text.specs.Bytes.{is_break, count_while, starts_with}
+use Rattle.text.specs.Bytes.{is_break, starts_with}
 use Rattle.utf8.specs.Scalar.{is_scalar, encoding}
 use Rattle.utf8.specs.Utf8.{within, lead_of, followed, char_len}
 use Rattle.unescape_codes.specs.Codes.{digit_of, digits_from, code_of, simple_of}
 use Rattle.unescape_pieces.specs.declared.start.Style.TheVariants.{AsIs, Entry}
+use Rattle.unescape_pieces.specs.declared.fault.Fault.TheVariants.{EscapeAtEnd, ExtraCharacters, UnclosedQuotes}
 use Rattle.unescape_pieces.specs.Meaning.{
   Meaning,
   part,
@@ -29,7 +30,7 @@ use Rattle.unescape_pieces.specs.Meaning.{
 
 -- what computing a meaning unfolds
 unfoldable pub rules : List ℕ → Meaning
-unfolding is_break count_while starts_with is_scalar encoding within lead_of followed char_len digit_of digits_from code_of simple_of quoted all_literal simply_quoted entry_meaning is_empty lines_in later_lines joined_lines block_meaning
+unfolding is_break starts_with is_scalar encoding within lead_of followed char_len digit_of digits_from code_of simple_of quoted all_literal simply_quoted entry_meaning is_empty lines_in later_lines joined_lines block_meaning
 rules s = entry_meaning s
 
 -- `"\{0010FFFF}"` is the last scalar value
@@ -63,17 +64,17 @@ unfolding rules
 plus = refl
 
 -- `"`: unclosed quotes
-pub unclosed : entry_meaning (ascii "\"") ≡ refused 11
+pub unclosed : entry_meaning (ascii "\"") ≡ refused UnclosedQuotes
 unfolding rules
 unclosed = refl
 
 -- `"a"b`: characters after the quotes
-pub extra : entry_meaning (ascii "\"a\"b") ≡ refused 10
+pub extra : entry_meaning (ascii "\"a\"b") ≡ refused ExtraCharacters
 unfolding rules
 extra = refl
 
 -- `"a\`: an escape at the end
-pub escape-at-end : entry_meaning (ascii "\"a\\") ≡ refused 9
+pub escape-at-end : entry_meaning (ascii "\"a\\") ≡ refused EscapeAtEnd
 unfolding rules
 escape-at-end = refl
 

@@ -5,6 +5,6 @@ pub mod Firsts
 pub mod Walking
 pub mod Starts
 pub mod Turns
-pub mod Walked
 pub mod Ends
 pub mod Proper
+pub mod Readings

@@ -3,13 +3,16 @@ use Prim.Native.Nat.{ℕ, suc, ◌+◌, ◌-◌, ◌≤◌}
 use mathlib.Core.Path.{◌≡◌, refl, sym, ap, ap₂, subst, ◌∙◌}
 use mathlib.Core.List.{List, [], ◌∷◌}
 use mathlib.Core.Bool.{Bool, false, ◌&&◌, and-true, and-false}
+use native.Mathlib.Numerals.{one-add}
 use native.Mathlib.Omega.{arith}
 use lib.Dec.{eqb, eqb-suc-suc}
 use lib.ListN.{length, take, drop, get_or}
 use borrow.Author.Tests.{eqb-true, ne_eqb, le-leb}
-use Rattle.text.specs.Bytes.{count_while, line_end}
+use Rattle.text.specs.Bytes.{line_end}
+use Rattle.std.specs.List.{prefix_len}
+use Rattle.text.specs.declared.bytes.Part.{Part}
 use Rattle.text.proofs.Cases.{by_bool, on-cond, and_left}
-use Rattle.text.proofs.Scan.{count-le}
+use Rattle.std.proofs.lemmas.List.Sums.{prefix_len-le-length}
 use Rattle.unescape_pieces.specs.Meaning.{part, all_literal, simply_quoted, entry_meaning, block_meaning, meaning}
 use Rattle.unescape_pieces.specs.Pieces.{is_literal, entry_start, block_start, start_of, begun, meaning_from}
 use Rattle.unescape_pieces.specs.declared.start.Style.{Style}
@@ -24,25 +27,25 @@ use Rattle.unescape_pieces.proofs.Escapes.{neither}
 abbrev Closes : List ℕ → ℕ → Bool
 Closes r n = eqb (n + 1) (length r) && eqb (get_or r n 0) 34
 
-closes : (c : ℕ) (r : List ℕ) → eqb (get_or (c ∷ r) (length r) 0) 34 && all_literal (take (length r) (c ∷ r)) ≡ Closes (c ∷ r) (count_while is_literal (c ∷ r))
-unfolding all_literal count_while
+closes : (c : ℕ) (r : List ℕ) → eqb (get_or (c ∷ r) (length r) 0) 34 && all_literal (take (length r) (c ∷ r)) ≡ Closes (c ∷ r) (prefix_len is_literal (c ∷ r))
+unfolding all_literal
 closes c [] =
     by_bool (is_literal c)
     (λ e. rw (e, (neither (eqb c 34) (eqb c 92) e).0))
     (λ e. rw (e, and-true))
 closes c (d ∷ r) =
     by_bool (is_literal c)
-    (λ e. let k = count_while is_literal (d ∷ r) in
+    (λ e. let k = prefix_len is_literal (d ∷ r) in
     let z : suc k + 1 ≡ suc (k + 1) = omega arith in
-    rw (e, z, eqb-suc-suc) (closes d r))
+    rw (e, one-add, z, eqb-suc-suc) (closes d r))
     (λ e. rw (e, and-false, ne_eqb (0 + 1) (suc (suc (length r))) (λ z. omega arith)))
 
-simply : (r : List ℕ) → simply_quoted (34 ∷ r) ≡ Closes r (count_while is_literal r)
+simply : (r : List ℕ) → simply_quoted (34 ∷ r) ≡ Closes r (prefix_len is_literal r)
 unfolding simply_quoted
 simply [] = none
   where
-    none : false ≡ Closes [] (count_while is_literal [])
-    none = sym (ap (λ t. t && eqb (get_or [] (count_while is_literal []) 0) 34) (ne_eqb (count_while is_literal [] + 1) 0 (λ z. omega arith)))
+    none : false ≡ Closes [] (prefix_len is_literal [])
+    none = sym (ap (λ t. t && eqb (get_or [] (prefix_len is_literal []) 0) 34) (ne_eqb (prefix_len is_literal [] + 1) 0 (λ z. omega arith)))
 simply (c ∷ r) =
     let y : length (34 ∷ c ∷ r) - 1 ≡ suc (length r) = omega arith in
     let z : length (34 ∷ c ∷ r) - 2 ≡ length r = omega arith in
@@ -53,7 +56,7 @@ unfolding entry_meaning entry_start meaning_from
 entry-begun indent [] = refl
 entry-begun indent (b ∷ r) =
     by_bool (eqb b 34)
-    (λ e. let n = count_while is_literal r in
+    (λ e. let n = prefix_len is_literal r in
     by_bool (Closes r n)
     (λ t. rw (eqb-true b 34 e, simply r, t, ← eqb-true (n + 1) (length r) (and_left (eqb (n + 1) (length r)) _ t)))
     (λ t. rw (eqb-true b 34 e, simply r, t)))
@@ -71,15 +74,15 @@ begun-law Block s indent = block-begun indent s
 
 -- both ends of a plain part, and the place of the first piece, lie within the text
 abbrev pub Lies : Start → List ℕ → Type 0
-Lies (Plain a e) s = (a ≤ e) × (e ≤ length s)
+Lies (Plain p) s = (p.start ≤ p.end) × (p.end ≤ length s)
 Lies (Pieces n spot) s = n ≤ length s
 
 entry-lies : (s : List ℕ) → Lies (entry_start s) s
 unfolding entry_start
 entry-lies [] = (omega arith, omega arith)
 entry-lies (b ∷ r) =
-    let n = count_while is_literal r in
-    let k = count-le is_literal r in
+    let n = prefix_len is_literal r in
+    let k = prefix_len-le-length is_literal r in
     on-cond (λ x. Lies x (b ∷ r)) (eqb b 34)
     (λ e. on-cond (λ x. Lies x (b ∷ r)) (Closes r n)
     (λ t. (omega arith, omega (arith, eqb-true (n + 1) (length r) (and_left (eqb (n + 1) (length r)) _ t))))
@@ -95,10 +98,10 @@ lies Block s = on-cond (λ x. Lies x s) (eqb (line_end s) (length s)) (λ e. (om
 -- The same by what it begins with
 
 module _ (style : Style) (s : List ℕ) where
-  pub part-means : {a e : ℕ} (indent : List ℕ) → start_of style s ≡ Plain a e → meaning style s indent ≡ part a e
+  pub part-means : {p : Part} (indent : List ℕ) → start_of style s ≡ Plain p → meaning style s indent ≡ part p.start p.end
   part-means indent q = begun-law style s indent ∙ ap (λ x. begun x indent s) q
 
-  pub part_lies : {a e : ℕ} → start_of style s ≡ Plain a e → (a ≤ e) × (e ≤ length s)
+  pub part_lies : {p : Part} → start_of style s ≡ Plain p → (p.start ≤ p.end) × (p.end ≤ length s)
   part_lies q = subst (λ x. Lies x s) q (lies style s)
 
   pub pieces-mean : {n : ℕ} {spot : Spot} (indent : List ℕ) → start_of style s ≡ Pieces n spot → meaning style s indent ≡ meaning_from spot indent (drop n s) n

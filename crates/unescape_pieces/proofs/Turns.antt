@@ -1,58 +1,41 @@
 -- One turn of a loop over the pieces of a text: the place moves on within the text, and the text from there on means the rest.
 use Prim.Native.Nat.{ℕ, zero, suc, ◌+◌, ◌-◌, ◌*◌, ◌≤◌, ◌<◌}
-use mathlib.Core.Path.{◌≡◌, sym, ap, subst, ◌∙◌}
+use mathlib.Core.Path.{◌≡◌, sym, subst, ◌∙◌}
 use mathlib.Core.List.{List, [], ◌∷◌}
 use native.Mathlib.Nat.{sub-zero}
 use native.Mathlib.Omega.{arith}
 use lib.ListN.{length, take, drop, length-drop}
 use lib.Seq.{drop-drop, take-nil, take-take, length-take-le}
+use Rattle.std.specs.Prelude.{Some, Ok}
 use Rattle.unescape_pieces.specs.Pieces.{next_of, meaning_from}
+use Rattle.unescape_pieces.specs.Cursor.{weight}
 use Rattle.unescape_pieces.specs.declared.pieces.Spot.{Spot}
 use Rattle.unescape_pieces.specs.declared.pieces.Piece.{Piece}
-use Rattle.unescape_pieces.specs.declared.pieces.Piece.TheVariants.{Run, Scalar, Code}
+use Rattle.unescape_pieces.specs.declared.pieces.Piece.TheVariants.{Run, Scalar}
 use Rattle.unescape_pieces.specs.declared.pieces.Next.{Next}
-use Rattle.unescape_pieces.proofs.Walking.{continued, law, weight, Steps, Stepped, steps}
+use Rattle.unescape_pieces.proofs.Walking.{Found, after, law, Steps, Stepped, steps}
 
--- The text from the place on, x being what stands there and P its piece
+-- The text from the place on, and the piece x that stands there
 
 -- the place that comes next
 pub record Moved (s : List ℕ) (at : ℕ) (spot : Spot) (x : Next) : Type 0 where
   pub within : at + x.pass ≤ length s
   pub falls : 2 * (length s - (at + x.pass)) + weight x.spot < 2 * (length s - at) + weight spot
 
-module _ (indent s : List ℕ) (at : ℕ) (spot : Spot) (x : Next) (q : x ≡ next_of spot indent (drop at s)) where
-  pub meant : {P : Piece} → x.piece ≡ P → meaning_from spot indent (drop at s) at
-      ≡ continued P (take x.pass (drop at s)) at (meaning_from x.spot indent (drop (at + x.pass) s) (at + x.pass))
-  meant p =
-      law indent spot (drop at s) at ∙ rw (← q, drop-drop)
-      (ap (λ y. continued y (take x.pass (drop at s)) at (meaning_from x.spot indent (drop (at + x.pass) s) (at + x.pass))) p)
+module _ (indent s : List ℕ) (at : ℕ) (spot : Spot) where
+  pub meant : {r : Found} → r ≡ next_of spot indent (drop at s) → meaning_from spot indent (drop at s) at ≡ after indent r (drop at s) at
+  meant q = law indent spot (drop at s) at ∙ rw (← q)
 
-  stepped : {P : Piece} → x.piece ≡ P → Steps P spot (drop at s) x.pass x.spot
-  stepped p =
-      subst (λ y. Steps y spot (drop at s) x.pass x.spot) p
-      (subst (λ y. Stepped spot (drop at s) y) (sym q) (steps spot indent (drop at s)))
+  pub stepped : {r : Found} → r ≡ next_of spot indent (drop at s) → Stepped spot (drop at s) r
+  stepped q = subst (λ y. Stepped spot (drop at s) y) (sym q) (steps spot indent (drop at s))
 
   module _ (h : at ≤ length s) where
-    pub run-skips : {k : ℕ} → x.piece ≡ Run k → k ≤ x.pass
-    run-skips p = (stepped p).0
-
-    pub run-moves : {k : ℕ} → x.piece ≡ Run k → Moved s at spot x
-    run-moves p =
-        let m = stepped p in
-        let d = length-drop at s in
-        record { within = omega arith; falls = omega arith }
-
-    pub scalar-moves : {n : ℕ} → x.piece ≡ Scalar n → Moved s at spot x
-    scalar-moves p =
-        let m = stepped p in
-        let d = length-drop at s in
-        record { within = omega arith; falls = omega arith }
-
-    pub scalar-passes : {n : ℕ} → x.piece ≡ Scalar n → 1 ≤ x.pass
-    scalar-passes p = (stepped p).0
-
-    pub code-within : {k : ℕ} → x.piece ≡ Code k → at + k ≤ length s
-    code-within p = omega (arith, stepped p, length-drop at s)
+    pub moves : {x : Next} → Ok (Some x) ≡ next_of spot indent (drop at s) → Moved s at spot x
+    moves {x} q = moved x.piece (stepped q)
+      where
+        moved : (p : Piece) → Steps p spot (drop at s) x.pass x.spot → Moved s at spot x
+        moved (Run k) m = let d = length-drop at s in record { within = omega arith; falls = omega arith }
+        moved (Scalar c) m = let d = length-drop at s in record { within = omega arith; falls = omega arith }
 
 -- The bytes of a run, as the code slices them
 

@@ -9,20 +9,25 @@ use lib.Dec.{eqb, ltb}
 use lib.ListN.{length, take, drop, get_or, get_or-eq_default}
 use lib.Seq.{length-take-le}
 use borrow.Author.Tests.{eqb-true, eqb-false, ltb-true, ltb-false, lt-ltb}
-use Rattle.text.specs.Bytes.{count_while, line_end, not_break, break_size, starts_with}
+use native.Mathlib.Nat.{add-zero}
+use Rattle.std.specs.Prelude.{Option, Some, None, Result, Ok, Err}
+use Rattle.text.specs.Bytes.{line_end, not_break, break_size, starts_with}
+use Rattle.std.specs.List.{prefix_len}
 use Rattle.utf8.specs.Scalar.{is_scalar, encoding, encoding_of}
 use Rattle.utf8.specs.Utf8.{char_len}
 use Rattle.text.proofs.Cases.{by_bool, on-cond, clash}
+use Rattle.unescape_codes.proofs.Cases.{by_option, on-option}
 use Rattle.utf8.proofs.Chars.{char_len-le}
 use Rattle.text.proofs.Front.{break-le}
 use Rattle.text.proofs.Prefix.{short}
-use Rattle.text.proofs.Scan.{count-le}
-use Rattle.unescape_codes.specs.Codes.{code_of, simple_of}
-use Rattle.unescape_pieces.specs.Meaning.{Meaning, bytes, code, refused, written, plain, escape, closed, quoted, is_empty, later_lines}
+use Rattle.std.proofs.lemmas.List.Sums.{prefix_len-le-length}
+use Rattle.unescape_codes.specs.Codes.{simple_of}
+use Rattle.unescape_pieces.specs.Meaning.{Meaning, bytes, refused, written, scalar_in, plain, escape, closed, quoted, is_empty, later_lines}
 use Rattle.unescape_pieces.specs.Pieces.{
   is_literal,
   in_brace,
-  stopped,
+  passing,
+  fault_at,
   braced,
   brace_next,
   escape_next,
@@ -35,25 +40,27 @@ use Rattle.unescape_pieces.specs.Pieces.{
   lines_after,
   meaning_from,
 }
+use Rattle.unescape_pieces.specs.Cursor.{weight, Shows, piece_bytes}
 use Rattle.unescape_pieces.specs.declared.pieces.Spot.{Spot}
 use Rattle.unescape_pieces.specs.declared.pieces.Spot.TheVariants.{Quotes, FirstLine, LaterLine, Break}
-use Rattle.unescape_pieces.specs.declared.pieces.Piece.{Piece}
-use Rattle.unescape_pieces.specs.declared.pieces.Piece.TheVariants.{Run, Scalar, End, Code, Refused}
 use Rattle.unescape_pieces.specs.declared.pieces.Next.{Next}
+use Rattle.unescape_pieces.specs.declared.fault.Fault.{Fault}
+use Rattle.unescape_pieces.specs.declared.pieces.Piece.{Piece}
+use Rattle.unescape_pieces.specs.declared.pieces.Piece.TheVariants.{Run, Scalar}
+use Rattle.unescape_pieces.specs.declared.fault.Fault.TheVariants.{ExtraCharacters}
 use Rattle.unescape_pieces.proofs.Broken.{first-line, later-line, opened}
-use Rattle.unescape_pieces.proofs.Escapes.{simple, bare-byte, run, Braced, in-brace}
+use Rattle.unescape_pieces.proofs.Escapes.{simple, scalar-in, run, Braced, in-brace}
 
--- a piece, l being the bytes passed with it and n their place, and then m
-abbrev pub continued : Piece → List ℕ → ℕ → Meaning → Meaning
-continued (Run k) l n m = written (drop k l) m
-continued (Scalar c) l n m = written (encoding_of c) m
-continued End l n m = bytes []
-continued (Code k) l n m = code n (n + k)
-continued (Refused r) l n m = refused r
+-- a piece, the end of the text, or why it means nothing
+abbrev pub Found : Type 0
+Found = Result (Option Next) Fault
 
 module _ (indent : List ℕ) where
-  abbrev pub after : Next → List ℕ → ℕ → Meaning
-  after x s n = continued x.piece (take x.pass s) n (meaning_from x.spot indent (drop x.pass s) (n + x.pass))
+  -- what is found at n, where s begins
+  abbrev pub after : Found → List ℕ → ℕ → Meaning
+  after (Ok (Some x)) s n = written (piece_bytes x.piece (take x.pass s)) (meaning_from x.spot indent (drop x.pass s) (n + x.pass))
+  after (Ok None) s n = bytes []
+  after (Err f) s n = refused (fault_at n f)
 
   -- Escapes
 
@@ -73,27 +80,27 @@ module _ (indent : List ℕ) where
       let u : k + 3 ≡ suc (suc (suc k)) = omega arith in
       let h = take k r in
       by_bool (eqb (get_or r k 0) 125)
-      (λ e. by_bool (is_scalar (code_of h)) (λ f. rw (e, f, scalar (code_of h) f, p, u)) (λ f. rw (e, f, p)))
-      (λ e. rw (e, q))
+      (λ e. by_option (scalar_in h) (λ v f. rw (e, f, scalar v (scalar-in h v f), p, u)) (λ f. rw (e, f, p, add-zero)))
+      (λ e. rw (e, q, add-zero))
 
   escape-law : (b : ℕ) (r : List ℕ) (n : ℕ) → quoted r (escape n) (n + 1) ≡ after (escape_next r) (b ∷ r) n
   unfolding quoted escape_next brace_next meaning_from
   escape-law b [] n = refl
   escape-law b (c ∷ r) n =
       by_bool (eqb c 123)
-      (λ e. rw e (in-brace r [] n (n + 1 + 1) ∙ brace-law b c r n (count_while in_brace r)))
-      (λ e. by_bool (eqb (simple_of c) 0)
-      (λ f. let q : n + 1 + char_len (c ∷ r) ≡ n + (1 + char_len (c ∷ r)) = omega arith in rw (e, f, q))
-      (λ f. let q : n + 1 + 1 ≡ n + 2 = omega arith in rw (e, f, q, ascii (simple_of c) (simple c f).1)))
+      (λ e. rw e (in-brace r [] n (n + 1 + 1) ∙ brace-law b c r n (prefix_len in_brace r)))
+      (λ e. by_option (simple_of c)
+      (λ v f. let q : n + 1 + 1 ≡ n + 2 = omega arith in rw (e, f, q, ascii v (simple c v f).1))
+      (λ f. let q : n + 1 + char_len (c ∷ r) ≡ n + (1 + char_len (c ∷ r)) = omega arith in rw (e, f, q, add-zero)))
 
   -- The characters in quotes
 
-  closed-law : (b : ℕ) (r : List ℕ) (n : ℕ) → closed r ≡ after (cond (is_empty r) (stopped End) (stopped (Refused 10))) (b ∷ r) n
+  closed-law : (b : ℕ) (r : List ℕ) (n : ℕ) → closed r ≡ after (cond (is_empty r) (Ok None) (Err ExtraCharacters)) (b ∷ r) n
   unfolding is_empty
   closed-law b [] n = refl
   closed-law b (c ∷ r) n = refl
 
-  run-law : (s : List ℕ) (n : ℕ) → quoted s plain n ≡ after (record { piece = Run 0; pass = count_while is_literal s; spot = Quotes }) s n
+  run-law : (s : List ℕ) (n : ℕ) → quoted s plain n ≡ after (Ok (Some (passing (Run 0) (prefix_len is_literal s) Quotes))) s n
   unfolding meaning_from
   run-law s n = run s n
 
@@ -103,11 +110,11 @@ module _ (indent : List ℕ) where
   quoted-law (b ∷ r) n =
       by_bool (eqb b 34)
       (λ e. rw e (closed-law b r n))
-      (λ e. by_bool (eqb b 92) (λ f. rw (e, f) (escape-law b r n)) (λ f. rw (e, f) (sym (bare-byte b r n (rw (e, f))) ∙ run-law (b ∷ r) n)))
+      (λ e. by_bool (eqb b 92) (λ f. rw (e, f) (escape-law b r n)) (λ f. rw (e, f) (rw (e, f) at (run-law (b ∷ r) n))))
 
   -- All
 
-  break-law : (s : List ℕ) (n : ℕ) → bytes (later_lines indent (lines_after s)) ≡ after (break_next s) s n
+  break-law : (s : List ℕ) (n : ℕ) → bytes (later_lines indent (lines_after s)) ≡ after (Ok (break_next s)) s n
   unfolding break_next later_lines meaning_from
   break-law s n =
       by_bool (eqb (opened_by s) 0)
@@ -123,12 +130,6 @@ module _ (indent : List ℕ) where
 
 -- Progress
 
-abbrev pub weight : Spot → ℕ
-weight Quotes = 0
-weight FirstLine = 1
-weight LaterLine = 1
-weight Break = 0
-
 -- n bytes of s are passed, and then `to` stands there
 abbrev pub Falls : Spot → List ℕ → ℕ → Spot → Type 0
 Falls spot s n to = 2 * (length s - n) + weight to < 2 * length s + weight spot
@@ -136,12 +137,11 @@ Falls spot s n to = 2 * (length s - n) + weight to < 2 * length s + weight spot
 abbrev pub Steps : Piece → Spot → List ℕ → ℕ → Spot → Type 0
 Steps (Run k) spot s n to = (k ≤ n) × (n ≤ length s) × Falls spot s n to
 Steps (Scalar c) spot s n to = (1 ≤ n) × (n ≤ length s) × Falls spot s n to
-Steps End spot s n to = Unit {0}
-Steps (Code k) spot s n to = k ≤ length s
-Steps (Refused r) spot s n to = Unit {0}
 
-abbrev pub Stepped : Spot → List ℕ → Next → Type 0
-Stepped spot s x = Steps x.piece spot s x.pass x.spot
+abbrev pub Stepped : Spot → List ℕ → Found → Type 0
+Stepped spot s (Ok (Some x)) = Steps x.piece spot s x.pass x.spot
+Stepped spot s (Ok None) = Unit {0}
+Stepped spot s (Err f) = Shows (length s) f
 
 brace-in : (r : List ℕ) (k : ℕ) → eqb (get_or r k 0) 125 ≡ true → k < length r
 brace-in r k e =
@@ -152,21 +152,20 @@ brace-steps : (b c : ℕ) (r : List ℕ) (k : ℕ) → k ≤ length r → Steppe
 brace-steps b c r k h =
     on-cond (Stepped Quotes (b ∷ c ∷ r)) (eqb (get_or r k 0) 125)
     (λ e. let l = brace-in r k e in
-    on-cond (Stepped Quotes (b ∷ c ∷ r)) (is_scalar (code_of (take k r))) (λ f. (omega arith, omega arith, omega arith)) (λ f. omega arith))
-    (λ e. omega arith)
+    on-option (Stepped Quotes (b ∷ c ∷ r)) (scalar_in (take k r)) (λ v f. (omega arith, omega arith, omega arith)) (λ f. (omega arith, omega arith)))
+    (λ e. (omega arith, omega arith))
 
 escape_steps : (b : ℕ) (r : List ℕ) → Stepped Quotes (b ∷ r) (escape_next r)
 unfolding escape_next brace_next
 escape_steps b [] = tt
 escape_steps b (c ∷ r) =
     on-cond (Stepped Quotes (b ∷ c ∷ r)) (eqb c 123)
-    (λ e. brace-steps b c r (count_while in_brace r) (count-le in_brace r))
-    (λ e. on-cond (Stepped Quotes (b ∷ c ∷ r)) (eqb (simple_of c) 0)
-    (λ f. omega (arith, char_len-le (c ∷ r)))
-    (λ f. (omega arith, omega arith, omega arith)))
+    (λ e. brace-steps b c r (prefix_len in_brace r) (prefix_len-le-length in_brace r))
+    (λ e. on-option (Stepped Quotes (b ∷ c ∷ r)) (simple_of c)
+    (λ v f. (omega arith, omega arith, omega arith))
+    (λ f. (omega arith, omega (arith, char_len-le (c ∷ r)))))
 
-some-bare : (b : ℕ) (r : List ℕ) → eqb b 34 ≡ false → eqb b 92 ≡ false → 0 < count_while is_literal (b ∷ r)
-unfolding count_while
+some-bare : (b : ℕ) (r : List ℕ) → eqb b 34 ≡ false → eqb b 92 ≡ false → 0 < prefix_len is_literal (b ∷ r)
 some-bare b r e f = rw (e, f) (omega arith)
 
 quoted-steps : (s : List ℕ) → Stepped Quotes s (quoted_next s)
@@ -177,7 +176,7 @@ quoted-steps (b ∷ r) =
     (λ e. on-cond (Stepped Quotes (b ∷ r)) (is_empty r) (λ _. tt) (λ _. tt))
     (λ e. on-cond (Stepped Quotes (b ∷ r)) (eqb b 92)
     (λ f. escape_steps b r)
-    (λ f. let k = count-le is_literal (b ∷ r) in let p = some-bare b r e f in (omega arith, k, omega arith)))
+    (λ f. let k = prefix_len-le-length is_literal (b ∷ r) in let p = some-bare b r e f in (omega arith, k, omega arith)))
 
 skip-le : (later : Bool) (indent l : List ℕ) → skipped later indent l ≤ length l
 skip-le later indent l =
@@ -194,18 +193,18 @@ opened-le s =
     (λ f. on-cond (λ k. k ≤ length s) (eqb (get_or s 0 0) 13) (λ _. omega (arith, eqb-true (break_size s) 1 f)) (λ _. omega arith))
     (λ f. omega arith))
 
-line-steps : (later : Bool) (spot : Spot) (indent s : List ℕ) → weight spot ≡ 1 → Stepped spot s (line_next later indent s)
+line-steps : (later : Bool) (spot : Spot) (indent s : List ℕ) → weight spot ≡ 1 → Stepped spot s (Ok (Some (line_next later indent s)))
 unfolding line_next
 line-steps later spot indent s w =
-    let n = count-le not_break s in
+    let n = prefix_len-le-length not_break s in
     let k = skip-le later indent (take (line_end s) s) in
     (omega (arith, k, length-take-le (line_end s) s n), n, omega arith)
 
-break-steps : (s : List ℕ) → Stepped Break s (break_next s)
+break-steps : (s : List ℕ) → Stepped Break s (Ok (break_next s))
 unfolding break_next
 break-steps s =
     let h = opened-le s in
-    on-cond (Stepped Break s) (eqb (opened_by s) 0) (λ e. tt)
+    on-cond (λ x. Stepped Break s (Ok x)) (eqb (opened_by s) 0) (λ e. tt)
     (λ e. let p : 1 ≤ opened_by s = omega (arith, eqb-false (opened_by s) 0 e) in (p, h, omega arith))
 
 pub steps : (spot : Spot) (indent s : List ℕ) → Stepped spot s (next_of spot indent s)

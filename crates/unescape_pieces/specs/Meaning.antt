@@ -1,28 +1,50 @@
 -- Law: document 01, 'Unescaping': what a text means, given how it is to be read, its bytes and its indentation's bytes.
 -- Places here are counted from the start of the text.
-use Rattle.std.specs.Prelude.{ℕ, ◌+◌, ◌-◌, List, [], ◌∷◌, ◌++◌, Bool, true, false, cond, not, ◌&&◌, ◌||◌, eqb, leb, length, take, drop, get_or}
+use Rattle.std.specs.Prelude.{ℕ, ◌+◌, ◌-◌, List, [], ◌∷◌, ◌++◌, Bool, true, false, cond, not, ◌&&◌, ◌||◌, eqb, leb, length, take, drop, get_or, Option, Some, None}
+use Rattle.std.specs.Option.{option_and_then, option_map_or}
 use Prim.Native.Char.{code as byte}
-use Rattle.text.specs.Bytes.{count_while, not_break, starts_with}
+use Rattle.text.specs.Bytes.{not_break, starts_with, shifted_by}
+use Rattle.std.specs.List.{prefix_len}
+use Rattle.text.specs.declared.bytes.Part.{Part}
 use Rattle.utf8.specs.Utf8.{char_len}
 use Rattle.utf8.specs.Scalar.{is_scalar, encoding}
-use Rattle.text.specs.Numbers.{escape_at_end, extra_characters, unclosed_quotes}
+use Rattle.text.specs.declared.refusals.Refusal.{Refusal}
+use Rattle.text.specs.declared.refusals.Refusal.TheVariants as refusal
 use Rattle.unescape_codes.specs.Codes.{code_of, simple_of}
+use Rattle.unescape_pieces.specs.declared.fault.Fault.{Fault}
+use Rattle.unescape_pieces.specs.declared.fault.Fault.TheVariants.{InvalidEscape, EscapeAtEnd, ExtraCharacters, UnclosedQuotes}
 use Rattle.unescape_pieces.specs.declared.start.Style.{Style}
 use Rattle.unescape_pieces.specs.declared.start.Style.TheVariants.{AsIs, Entry, Block}
 
--- a part of the text, the bytes that are written, an invalid escape code with the part that is shown, or a refusal 9, 10 or 11
+-- the refusal of a text that means nothing
+abbrev pub refusal_of : Fault → Refusal
+refusal_of (InvalidEscape p) = refusal.InvalidEscape
+refusal_of EscapeAtEnd = refusal.EscapeAtEnd
+refusal_of ExtraCharacters = refusal.ExtraCharacters
+refusal_of UnclosedQuotes = refusal.UnclosedQuotes
+
+-- the part that its message shows, n being where the text starts; the empty one at 0 where none is shown
+abbrev pub shown_from : ℕ → Fault → Part
+shown_from n (InvalidEscape p) = shifted_by n p
+shown_from n EscapeAtEnd = record { start = 0; end = 0 }
+shown_from n ExtraCharacters = record { start = 0; end = 0 }
+shown_from n UnclosedQuotes = record { start = 0; end = 0 }
+
+-- a part of the text, the bytes that are written, or why it means nothing
 pub data Meaning : Type 0 where
   part : ℕ → ℕ → Meaning
   bytes : List ℕ → Meaning
-  code : ℕ → ℕ → Meaning
-  refused : ℕ → Meaning
+  refused : Fault → Meaning
+
+-- an invalid escape code, with the part that is shown
+abbrev pub code : ℕ → ℕ → Meaning
+code a e = refused (InvalidEscape (record { start = a; end = e }))
 
 -- one more byte, or several, in front of what is written
 abbrev pub written : List ℕ → Meaning → Meaning
 written w (part a e) = part a e
 written w (bytes l) = bytes (w ++ l)
-written w (code a e) = code a e
-written w (refused n) = refused n
+written w (refused f) = refused f
 
 -- where a quoted text is being read: outside an escape, after a backslash at s, or in a brace whose backslash is at s
 pub data Mode : Type 0 where
@@ -33,7 +55,7 @@ pub data Mode : Type 0 where
 -- after the closing quote nothing may come
 abbrev pub closed : List ℕ → Meaning
 closed [] = bytes []
-closed (b ∷ r) = refused extra_characters
+closed (b ∷ r) = refused ExtraCharacters
 
 -- The part that 8 shows starts at the backslash. Where it ends, n being the place of the next byte: before what stops the
 -- brace, through the character there, which begins s, or through the `}` there
@@ -46,10 +68,14 @@ through_char s n = n + char_len s
 abbrev pub through_brace : ℕ → ℕ
 through_brace n = n + 1
 
+-- the number that the bytes of a brace name, where it is a scalar value
+abbrev pub scalar_in : List ℕ → Option ℕ
+scalar_in h = option_and_then (λ n. cond (is_scalar n) (Some n) None) (code_of h)
+
 -- The characters after the first quote, up to the closing one; n is the place of the next byte.
 unfoldable pub quoted : List ℕ → Mode → ℕ → Meaning
-quoted [] plain n = refused unclosed_quotes
-quoted [] (escape s) n = refused escape_at_end
+quoted [] plain n = refused UnclosedQuotes
+quoted [] (escape s) n = refused EscapeAtEnd
 quoted [] (brace s h) n = code s (before_stop n)
 quoted (b ∷ r) plain n =
     let e = quoted r (escape n) (n + 1) in
@@ -57,12 +83,13 @@ quoted (b ∷ r) plain n =
     cond (eqb b (byte "\"")) (closed r) (cond (eqb b (byte "\\")) e c)
 quoted (b ∷ r) (escape s) n =
     let o = quoted r (brace s []) (n + 1) in
-    let c = written (simple_of b ∷ []) (quoted r plain (n + 1)) in
-    cond (eqb b (byte "{")) o (cond (eqb (simple_of b) 0) (code s (through_char (b ∷ r) n)) c)
+    cond (eqb b (byte "{")) o
+    (option_map_or (λ v. written (v ∷ []) (quoted r plain (n + 1))) (simple_of b) (code s (through_char (b ∷ r) n)))
 quoted (b ∷ r) (brace s h) n =
-    let c = written (encoding (code_of h)) (quoted r plain (n + 1)) in
     let m = quoted r (brace s (h ++ b ∷ [])) (n + 1) in
-    cond (eqb b (byte "}")) (cond (is_scalar (code_of h)) c (code s (through_brace n))) (cond (eqb b (byte "\"")) (code s (before_stop n)) m)
+    cond (eqb b (byte "}"))
+    (option_map_or (λ v. written (encoding v) (quoted r plain (n + 1))) (scalar_in h) (code s (through_brace n)))
+    (cond (eqb b (byte "\"")) (code s (before_stop n)) m)
 
 -- no `"` and no `\` among the bytes
 unfoldable pub all_literal : List ℕ → Bool
@@ -120,7 +147,7 @@ joined_lines indent (l ∷ ls) = without indent l l ++ later_lines indent ls
 unfoldable pub block_meaning : List ℕ → List ℕ → Meaning
 block_meaning indent s =
     let w = bytes (joined_lines indent (lines_in s)) in
-    cond (eqb (count_while not_break s) (length s)) (part 0 (length s)) w
+    cond (eqb (prefix_len not_break s) (length s)) (part 0 (length s)) w
 
 -- a text as its kind is read
 unfoldable pub meaning : Style → List ℕ → List ℕ → Meaning

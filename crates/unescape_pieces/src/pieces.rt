@@ -1,9 +1,10 @@
-// One piece of an unescaped text at a time. The cursor is a place in the text and what stands there, by value.
+// One piece of an unescaped text at a time, given what stands at a place of the text and the bytes from there on.
 ghost use Rattle.std.specs.Prelude.{◌≡◌};
-ghost use Rattle.text.specs.Bytes.{count_while};
+ghost use Rattle.std.specs.List.{prefix_len};
+ghost use Rattle.unescape_pieces.specs.Meaning.{scalar_in};
 ghost use Rattle.unescape_pieces.specs.Pieces.{
   is_before,
-  stopped,
+  invalid,
   brace_next,
   escape_next,
   quoted_next,
@@ -13,7 +14,8 @@ ghost use Rattle.unescape_pieces.specs.Pieces.{
   next_of,
 };
 
-use text::{First, first_of};
+use crate::fault::Fault;
+use text::Part;
 use unescape_codes::{code_of, simple_of};
 
 // The braces of a code.
@@ -21,7 +23,7 @@ const OPENING: u8 = b'{';
 
 const CLOSING: u8 = b'}';
 
-// What stands at the cursor: characters in quotes, a multiline value's first line, a later one, or the break after one.
+// What stands at a place: characters in quotes, a multiline value's first line, a later one, or the break after one.
 #[derive(Clone, Copy)]
 pub enum Spot {
     Quotes,
@@ -30,15 +32,11 @@ pub enum Spot {
     Break,
 }
 
-// A piece: the bytes passed but for so many in front, a scalar value, the end, an invalid escape code of so many bytes, or a
-// refusal 9, 10 or 11.
+// A piece: the bytes passed but for so many in front, or a scalar value.
 #[derive(Clone, Copy)]
 pub enum Piece {
     Run(usize),
     Scalar(u32),
-    End,
-    Code(usize),
-    Refused(usize),
 }
 
 // A piece, how many bytes of the text are passed with it, and what stands after them.
@@ -49,121 +47,119 @@ pub struct Next {
     pub spot: Spot,
 }
 
-// Nothing comes after p.
-fn stop(p: Piece) -> Next
-    ensures { result ≡ stopped p }
-{
-    Next {
-        piece: p,
-        pass: 0,
-        spot: Spot::Quotes,
-    }
-}
-
 // How many bytes stand before the first `"` or `stop`.
 pub(crate) fn len_before(stop: u8, s: &[u8]) -> usize
-    ensures { result ≡ count_while (is_before stop) s.now }
+    ensures { result ≡ prefix_len (is_before stop) s.now }
 {
-    let mut i = 0;
-    while i < s.len() {
-        if s[i] == b'"' {
-            return i;
-        }
-        if s[i] == stop {
-            return i;
-        }
-        i += 1;
-    }
-    i
+    s.iter()
+        .take_while(|b| !(**b == b'"' || **b == stop))
+        .count()
+}
+
+// An invalid escape, of which so many bytes are shown.
+fn invalid(shown: usize) -> Result<Option<Next>, Fault>
+    ensures { result ≡ invalid shown }
+{
+    Err(Fault::InvalidEscape(Part {
+        start: 0,
+        end: shown,
+    }))
+}
+
+// The number that the bytes of a brace name, where it is a scalar value.
+fn scalar_in(h: &[u8]) -> Option<u32>
+    ensures { result ≡ scalar_in h.now }
+{
+    code_of(h).filter(|code| utf8::is_scalar(*code))
 }
 
 // An escape whose backslash and `{` stand before s.
-fn brace_next(s: &[u8]) -> Next
+fn brace_next(s: &[u8]) -> Result<Option<Next>, Fault>
     ensures { result ≡ brace_next s.now }
 {
     let n = len_before(CLOSING, s);
     if s.len() <= n {
-        return stop(Piece::Code(n + 2));
+        return invalid(n + 2);
     }
     if s[n] != CLOSING {
-        return stop(Piece::Code(n + 2));
+        return invalid(n + 2);
     }
-    let code = code_of(&s[..n]);
-    if !utf8::is_scalar(code) {
-        return stop(Piece::Code(n + 3));
-    }
-    Next {
+    let Some(code) = scalar_in(&s[..n]) else {
+        return invalid(n + 3);
+    };
+    Ok(Some(Next {
         piece: Piece::Scalar(code),
         pass: n + 3,
         spot: Spot::Quotes,
-    }
+    }))
 }
 
 // An escape whose backslash stands before s.
-fn escape_next(s: &[u8]) -> Next
+fn escape_next(s: &[u8]) -> Result<Option<Next>, Fault>
     ensures { result ≡ escape_next s.now }
 {
-    let First::Byte(b) = first_of(s) else {
-        return stop(Piece::Refused(9));
+    let Some(&b) = s.first() else {
+        return Err(Fault::EscapeAtEnd);
     };
     if b == OPENING {
         return brace_next(&s[1..]);
     }
-    let code = simple_of(b);
-    if code == 0 {
-        return stop(Piece::Code(1 + utf8::char_len(s)));
-    }
-    Next {
-        piece: Piece::Scalar(code),
+    let Some(code) = simple_of(b) else {
+        return invalid(1 + utf8::char_len(s));
+    };
+    Ok(Some(Next {
+        piece: Piece::Scalar(u32::from(code)),
         pass: 2,
         spot: Spot::Quotes,
-    }
+    }))
 }
 
 // The characters in quotes, the opening one passed.
-fn quoted_next(s: &[u8]) -> Next
+fn quoted_next(s: &[u8]) -> Result<Option<Next>, Fault>
     ensures { result ≡ quoted_next s.now }
 {
-    let First::Byte(b) = first_of(s) else {
-        return stop(Piece::Refused(11));
+    let Some(&b) = s.first() else {
+        return Err(Fault::UnclosedQuotes);
     };
     if b == b'\\' {
         return escape_next(&s[1..]);
     }
     if b != b'"' {
-        return Next {
+        return Ok(Some(Next {
             piece: Piece::Run(0),
             pass: len_before(b'\\', s),
             spot: Spot::Quotes,
-        };
+        }));
     }
     if s.len() < 2 {
-        stop(Piece::End)
+        Ok(None)
     } else {
-        stop(Piece::Refused(10))
+        Err(Fault::ExtraCharacters)
     }
 }
 
 // A line of a multiline value: without the indentation where it begins with it, else as it stands, or none of it.
+#[tactic(auto, unfolding(crate::specs::Pieces::line_next))]
 fn line_next(later: bool, indent: &[u8], s: &[u8]) -> Next
     ensures { result ≡ line_next later indent.now s.now }
 {
     let pass = text::line_end(s);
-    if text::starts_with(&s[..pass], indent) {
-        return Next {
-            piece: Piece::Run(indent.len()),
-            pass,
-            spot: Spot::Break,
-        };
-    }
+    let other = if later { pass } else { 0 };
+    let skip = if text::starts_with(&s[..pass], indent) {
+        indent.len()
+    } else {
+        other
+    };
     Next {
-        piece: Piece::Run(if later { pass } else { 0 }),
+        piece: Piece::Run(skip),
         pass,
         spot: Spot::Break,
     }
 }
 
-// The size of the break that s begins with, where it opens a line: a final LF, or CR LF, opens none, a final CR an empty one.
+// The size of the break that s begins with, where it opens a line, else 0: a final LF, or CR LF, opens none, a final CR an
+// empty one.
+#[tactic(auto, unfolding(crate::specs::Pieces::opened_by))]
 fn opening(s: &[u8]) -> usize
     ensures { result ≡ opened_by s.now }
 {
@@ -178,28 +174,30 @@ fn opening(s: &[u8]) -> usize
 }
 
 // The LF before a later line, or the end of the lines.
-fn break_next(s: &[u8]) -> Next
+#[tactic(auto, unfolding(crate::specs::Pieces::break_next))]
+fn break_next(s: &[u8]) -> Option<Next>
     ensures { result ≡ break_next s.now }
 {
     let pass = opening(s);
     if pass == 0 {
-        return stop(Piece::End);
+        return None;
     }
-    Next {
+    Some(Next {
         piece: Piece::Scalar(10),
         pass,
         spot: Spot::LaterLine,
-    }
+    })
 }
 
-// The next piece, s being the text from the cursor on.
-pub fn next_piece(spot: Spot, indent: &[u8], s: &[u8]) -> Next
+// The next piece, s being the text from its place on; None at its end. A fault's part is counted from that place.
+#[tactic(auto, unfolding(crate::specs::Pieces::next_of))]
+pub fn next_piece(spot: Spot, indent: &[u8], s: &[u8]) -> Result<Option<Next>, Fault>
     ensures { result ≡ next_of spot indent.now s.now }
 {
     match spot {
         Spot::Quotes => quoted_next(s),
-        Spot::FirstLine => line_next(false, indent, s),
-        Spot::LaterLine => line_next(true, indent, s),
-        Spot::Break => break_next(s),
+        Spot::FirstLine => Ok(Some(line_next(false, indent, s))),
+        Spot::LaterLine => Ok(Some(line_next(true, indent, s))),
+        Spot::Break => Ok(break_next(s)),
     }
 }

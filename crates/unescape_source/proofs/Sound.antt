@@ -14,9 +14,10 @@ use Rattle.text.proofs.Cases.{and_left, and_right}
 use Rattle.tokenizer.specs.Token.{line_of}
 use Rattle.tokenizer.specs.Step.{bytes_of, fit_part}
 use Rattle.tokenizer.specs.declared.token.Token.{Token}
-use Rattle.unescape_source.specs.Source.{source_of, sound, source_in}
+use Rattle.text.specs.declared.refusals.Refusal.TheVariants.{TooLong, UnfitToken}
+use Rattle.std.specs.Prelude.{Ok, Err}
+use Rattle.unescape_source.specs.Source.{source_of, sound, error, source_in}
 use Rattle.unescape_source.specs.declared.source.Source.{Source}
-use Rattle.unescape_source.specs.declared.source.Checked.TheVariants.{Readable, Refused}
 
 pub fit-lies : (n : ℕ) (p : Part) → fit_part n p ≡ true → (p.start ≤ p.end) × (p.end ≤ n)
 fit-lies n p f = (leb-true p.start p.end (and_left (leb p.start p.end) _ f), leb-true p.end n (and_right (leb p.start p.end) _ f))
@@ -33,17 +34,17 @@ sound-length d p e =
 -- The branches of `source_in`
 
 module _ (d : List ℕ) (t : Token) where
-  pub over : 16777216 < length d → Refused 12 0 ≡ source_in d t
+  pub over : 16777216 < length d → Err (error TooLong 0) ≡ source_in d t
   unfolding source_in
   over h = rw (lt-ltb 16777216 (length d) h)
 
   module _ (x : Source) (q : x ≡ source_of t) (h : length d ≤ 16777216) where
     module _ {a b : Bool} (f : a ≡ sound d x.text) (g : b ≡ sound d x.indent) where
-      pub both-sound : (a && b) ≡ true → Readable x ≡ source_in d t
+      pub both-sound : (a && b) ≡ true → Ok x ≡ source_in d t
       unfolding source_in
       both-sound e = rw (← q, le-ltb 16777216 (length d) h, ← f, ← g, e)
 
-      pub not_sound : {l : ℕ} → (a && b) ≡ false → l ≡ line_of t → Refused 13 l ≡ source_in d t
+      pub not_sound : {l : ℕ} → (a && b) ≡ false → l ≡ line_of t → Err (error UnfitToken l) ≡ source_in d t
       unfolding source_in
       not_sound e z = rw (← q, le-ltb 16777216 (length d) h, ← f, ← g, e, z)
 
@@ -54,14 +55,14 @@ module _ (d : List ℕ) (t : Token) where
     pub text : sound d w.text ≡ true
     pub indent : sound d w.indent ≡ true
 
-  readable_of : {w : Source} (a b c : Bool) → cond a (Refused 12 0) (cond (b && c) (Readable (source_of t)) (Refused 13 (line_of t))) ≡ Readable w
+  readable_of : {w : Source} (a b c : Bool) → cond a (Err (error TooLong 0)) (cond (b && c) (Ok (source_of t)) (Err (error UnfitToken (line_of t)))) ≡ Ok w
       → (a ≡ false) × (b ≡ true) × (c ≡ true) × (source_of t ≡ w)
-  readable_of true b c e = let z : ◌≡◌ {A = ℕ} 0 1 = cc in absurd (omega arith)
-  readable_of false false c e = let z : ◌≡◌ {A = ℕ} 0 1 = cc in absurd (omega arith)
-  readable_of false true false e = let z : ◌≡◌ {A = ℕ} 0 1 = cc in absurd (omega arith)
+  readable_of true b c e = absurd cc
+  readable_of false false c e = absurd cc
+  readable_of false true false e = absurd cc
   readable_of false true true e = (refl, refl, refl, cc)
 
-  pub read : {w : Source} → source_in d t ≡ Readable w → Read w
+  pub read : {w : Source} → source_in d t ≡ Ok w → Read w
   unfolding source_in
   read e =
       let g = readable_of (ltb 16777216 (length d)) (sound d (source_of t).text) (sound d (source_of t).indent) e in

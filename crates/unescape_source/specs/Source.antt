@@ -1,7 +1,10 @@
 -- Law: document 01, 'Unescaping' and 'Numbers by the place where they are checked': a token's text and how it is read, and
 -- whether it may be read: 12, then 13.
-use Rattle.std.specs.Prelude.{ℕ, List, Bool, cond, ◌&&◌, ltb, length}
-use Rattle.text.specs.Numbers.{max_document, too_long, unfit_token}
+use Rattle.std.specs.Prelude.{ℕ, List, Bool, cond, ◌&&◌, ltb, length, Result, Ok, Err}
+use Rattle.text.specs.Numbers.{max_document}
+use Rattle.text.specs.declared.refusals.Refusal.{Refusal}
+use Rattle.text.specs.declared.refusals.Refusal.TheVariants.{TooLong, UnfitToken}
+use Rattle.text.specs.declared.refusals.SyntaxError.{SyntaxError}
 use Rattle.utf8.specs.Utf8.{utf8}
 use Rattle.text.specs.declared.bytes.Part.{Part}
 use Rattle.tokenizer.specs.Token.{line_of}
@@ -23,8 +26,6 @@ use Rattle.unescape_pieces.specs.Meaning.{Meaning, meaning}
 use Rattle.unescape_pieces.specs.declared.start.Style.{Style}
 use Rattle.unescape_pieces.specs.declared.start.Style.TheVariants.{AsIs, Entry, Block}
 use Rattle.unescape_source.specs.declared.source.Source.{Source}
-use Rattle.unescape_source.specs.declared.source.Checked.{Checked}
-use Rattle.unescape_source.specs.declared.source.Checked.TheVariants.{Readable, Refused}
 
 -- a token's text, where it has one
 abbrev pub source_at : Style → Part → Source
@@ -34,7 +35,7 @@ unfoldable pub source_of : Token → Source
 source_of (Newline l) = source_at AsIs no_part
 source_of (Comment l p) = source_at AsIs p
 source_of (Indent l) = source_at AsIs no_part
-source_of (Outdent l) = source_at AsIs no_part
+source_of (Outdent l o) = source_at AsIs no_part
 source_of (ListItem l) = source_at AsIs no_part
 source_of (MapKey l p) = source_at Entry p
 source_of (Value l p) = source_at Entry p
@@ -50,9 +51,13 @@ meaning_in d w = meaning w.style (bytes_of d w.text) (bytes_of d w.indent)
 unfoldable pub sound : List ℕ → Part → Bool
 sound d p = fit_part (length d) p && utf8 (bytes_of d p)
 
+-- a refusal on a line
+abbrev pub error : Refusal → ℕ → SyntaxError
+error r l = record { refusal = r; line = l }
+
 -- a token's source, where the document is within its limit and both parts are sound
-unfoldable pub source_in : List ℕ → Token → Checked
+unfoldable pub source_in : List ℕ → Token → Result Source SyntaxError
 source_in d t =
     let w = source_of t in
-    cond (ltb max_document (length d)) (Refused too_long 0)
-    (cond (sound d w.text && sound d w.indent) (Readable w) (Refused unfit_token (line_of t)))
+    cond (ltb max_document (length d)) (Err (error TooLong 0))
+    (cond (sound d w.text && sound d w.indent) (Ok w) (Err (error UnfitToken (line_of t))))

@@ -3,4 +3,4 @@
 
 mod source;
 
-pub use source::{Checked, Source, source_in, source_of};
+pub use source::{Source, source_in, source_of};

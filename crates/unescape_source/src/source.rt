@@ -4,7 +4,7 @@ ghost use Rattle.tokenizer.specs.Step.{no_part};
 ghost use Rattle.unescape_pieces.specs.declared.start.Style.TheVariants.{AsIs};
 ghost use Rattle.unescape_source.specs.Source.{source_at as worded_as, source_of, sound, source_in};
 
-use text::Part;
+use text::{Part, Refusal, SyntaxError};
 use tokenizer::{State, Token};
 use unescape_pieces::Style;
 
@@ -14,13 +14,6 @@ pub struct Source {
     pub style: Style,
     pub text: Part,
     pub indent: Part,
-}
-
-// A token's source, or why it may not be read: a number and a line.
-#[derive(Clone, Copy)]
-pub enum Checked {
-    Readable(Source),
-    Refused(usize, usize),
 }
 
 // A text with no indentation.
@@ -42,6 +35,7 @@ fn no_source() -> Source
 }
 
 // The text of a token, and how it is read.
+#[tactic(auto, unfolding(crate::specs::Source::source_of))]
 pub fn source_of(t: Token) -> Source
     ensures { result ≡ source_of t }
 {
@@ -57,13 +51,14 @@ pub fn source_of(t: Token) -> Source
         },
         Token::Newline(_) => no_source(),
         Token::Indent(_) => no_source(),
-        Token::Outdent(_) => no_source(),
+        Token::Outdent(_, _) => no_source(),
         Token::ListItem(_) => no_source(),
         Token::NoValue(_) => no_source(),
     }
 }
 
 // Whether p is a part of the document, and UTF-8.
+#[tactic(auto, unfolding(crate::specs::Source::sound))]
 fn is_sound(doc: &[u8], p: Part) -> bool
     ensures { result ≡ sound doc.now p }
 {
@@ -79,17 +74,23 @@ fn is_sound(doc: &[u8], p: Part) -> bool
 }
 
 // The source of a token: 12 over the document's limit, 13 where a part of it is none of the document's, or not UTF-8.
-pub fn source_in(t: Token, doc: &[u8]) -> Checked
+pub fn source_in(t: Token, doc: &[u8]) -> Result<Source, SyntaxError>
     ensures { result ≡ source_in doc.now t }
 {
     if State::MAX_DOCUMENT < doc.len() {
-        return Checked::Refused(12, 0);
+        return Err(SyntaxError {
+            refusal: Refusal::TooLong,
+            line: 0,
+        });
     }
     let w = source_of(t);
     let text = w.text;
     let indent = w.indent;
     if is_sound(doc, text) & is_sound(doc, indent) {
-        return Checked::Readable(w);
+        return Ok(w);
     }
-    Checked::Refused(13, t.line_number())
+    Err(SyntaxError {
+        refusal: Refusal::UnfitToken,
+        line: t.line_number(),
+    })
 }

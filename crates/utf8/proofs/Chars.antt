@@ -1,17 +1,16 @@
 -- `utf8` and `owes` read a text byte by byte; here the same is said of whole characters. A text is well-formed exactly where
 -- it is empty, or begins with a character and is well-formed after it.
-use Prim.Native.Nat.{ℕ, zero, suc, ◌+◌, ◌≤◌, ◌<◌}
+use Prim.Native.Nat.{ℕ, zero, suc, ◌≤◌, ◌<◌}
 use mathlib.Core.Path.{◌≡◌, refl, ◌∙◌}
 use mathlib.Core.List.{List, [], ◌∷◌}
 use mathlib.Core.Bool.{Bool, true, false, cond, ◌&&◌, and_assoc, and-eq-true_iff, false≢true}
 use native.Mathlib.Omega.{arith}
 use lib.Dec.{eqb, eqb-suc-zero}
-use lib.ListN.{length, get_or, drop, length-drop}
-use lib.Seq.{drop-drop, drop-cons}
-use borrow.Author.Tests.{ne_eqb, le-leb}
+use lib.ListN.{length, drop}
+use borrow.Author.Tests.{ne_eqb}
 use Rattle.utf8.specs.Utf8.{within, lead_of, followed, len_after, char_len, on_lead, owes, utf8}
 use Rattle.utf8.specs.declared.utf8.Lead.{Lead}
-use Rattle.utf8.specs.declared.utf8.Lead.TheVariants.{Follow, Bad}
+use Rattle.std.specs.Prelude.{Option, Some, None}
 
 -- the continuations that are found are part of the text
 pub followed-le : (n low high : ℕ) (s : List ℕ) → followed n low high s ≡ true → n ≤ length s
@@ -35,11 +34,11 @@ unfolding char_len
 char_len-le [] = omega arith
 char_len-le (b ∷ r) = after (lead_of b)
   where
-    after : (l : Lead) → len_after l r ≤ suc (length r)
-    after Bad = omega arith
-    after (Follow n low high) = found (followed n low high r) (followed-le n low high r)
+    after : (l : Option Lead) → len_after l r ≤ suc (length r)
+    after None = omega arith
+    after (Some l) = found (followed l.more l.low l.high r) (followed-le l.more l.low l.high r)
       where
-        found : (t : Bool) → (t ≡ true → n ≤ length r) → cond t (suc n) 0 ≤ suc (length r)
+        found : (t : Bool) → (t ≡ true → l.more ≤ length r) → cond t (suc l.more) 0 ≤ suc (length r)
         found true h = let k = h refl in omega arith
         found false h = omega arith
 
@@ -49,26 +48,21 @@ unfolding utf8 owes char_len
 utf8-char [] h = absurd (omega arith)
 utf8-char (b ∷ r) h = after (lead_of b)
   where
-    after : (l : Lead) → on_lead l (λ n low high. owes r n low high) ≡ cond (eqb (len_after l r) 0) false (utf8 (drop (len_after l r) (b ∷ r)))
-    after Bad = refl
-    after (Follow n low high) = owes-split n low high r ∙ found (followed n low high r)
+    after : (l : Option Lead) → on_lead l (λ n low high. owes r n low high) ≡ cond (eqb (len_after l r) 0) false (utf8 (drop (len_after l r) (b ∷ r)))
+    after None = refl
+    after (Some l) = owes-split l.more l.low l.high r ∙ found (followed l.more l.low l.high r)
       where
-        found : (t : Bool) → t && utf8 (drop n r) ≡ cond (eqb (cond t (suc n) 0) 0) false (utf8 (drop (cond t (suc n) 0) (b ∷ r)))
+        found : (t : Bool) → t && utf8 (drop l.more r) ≡ cond (eqb (cond t (suc l.more) 0) 0) false (utf8 (drop (cond t (suc l.more) 0) (b ∷ r)))
         found true = rw eqb-suc-zero
         found false = refl
 
--- The same at a position of a text, n being the length of the character that begins there.
-module _ (s : List ℕ) (i n : ℕ) (e : char_len (drop i s) ≡ n) where
-  pub at_none : i < length s → n ≡ 0 → utf8 (drop i s) ≡ false
-  at_none h z = utf8-char (drop i s) (rw length-drop (omega arith)) ∙ rw (e, z)
+pub utf8-none : (s : List ℕ) → length s ≡ 0 → utf8 s ≡ true
+unfolding utf8 owes
+utf8-none [] e = refl
+utf8-none (b ∷ r) e = absurd (omega arith)
 
-  pub at-char : i < length s → (n ≡ 0 → ⊥) → utf8 (drop i s) ≡ utf8 (drop (i + n) s)
-  at-char h z = utf8-char (drop i s) (rw length-drop (omega arith)) ∙ rw (e, ne_eqb n 0 z, drop-drop)
+pub no-char : (s : List ℕ) → 0 < length s → char_len s ≡ 0 → utf8 s ≡ false
+no-char s h z = utf8-char s h ∙ rw z
 
-  pub at-le : i ≤ length s → i + n ≤ length s
-  at-le h = omega (arith, e, char_len-le (drop i s), length-drop i s)
-
--- a byte of the table's first row is a character by itself
-pub at_ascii : (s : List ℕ) (i : ℕ) → i < length s → get_or s i 0 < 0x80 → char_len (drop i s) ≡ 1
-unfolding char_len lead_of within followed
-at_ascii s i h t = rw (drop-cons s i 0 h, le-leb 0 (get_or s i 0) (omega arith), le-leb (get_or s i 0) 0x7F (omega (arith, t)))
+pub past-char : (s : List ℕ) → 0 < length s → (char_len s ≡ 0 → ⊥) → utf8 s ≡ utf8 (drop (char_len s) s)
+past-char s h z = utf8-char s h ∙ rw (ne_eqb (char_len s) 0 z)

@@ -12,9 +12,9 @@ use borrow.Author.Tests.{eqb-true, leb-true}
 use Rattle.text.specs.Bytes.{starts_with}
 use Rattle.utf8.specs.Utf8.{within, lead_of, on_lead, owes, utf8}
 use Rattle.utf8.specs.declared.utf8.Lead.{Lead}
-use Rattle.utf8.specs.declared.utf8.Lead.TheVariants.{Follow, Bad}
+use Rattle.std.specs.Prelude.{Option, Some, None}
 use Rattle.utf8.proofs.Ranges.{below}
-use Rattle.utf8.proofs.Trimmed.{Owed, nothing, follow, owed}
+use Rattle.utf8.proofs.Trimmed.{Owed, nothing, some, owed}
 use Rattle.utf8.proofs.Unicode.{utf8-ascii}
 
 -- A well-formed text in front
@@ -35,9 +35,9 @@ owes-append [] b zero low high e = owes_nothing b low high
 owes-append [] b (suc n) low high e = absurd (false≢true e)
 owes-append (c ∷ a) b zero low high e = after (lead_of c) (owes-append a b) e
   where
-    after : (l : Lead) → Before a b → on_lead l (λ n low high. owes a n low high) ≡ true → on_lead l (λ n low high. owes (a ++ b) n low high) ≡ utf8 b
-    after Bad i e = absurd (false≢true e)
-    after (Follow n low high) i e = i n low high e
+    after : (l : Option Lead) → Before a b → on_lead l (λ n low high. owes a n low high) ≡ true → on_lead l (λ n low high. owes (a ++ b) n low high) ≡ utf8 b
+    after None i e = absurd (false≢true e)
+    after (Some l) i e = i l.more l.low l.high e
 owes-append (c ∷ a) b (suc n) low high e =
     let k = (and-eq-true_iff (within low high c) (owes a n 0x80 0xBF)).0 e in
     rw k.0 (owes-append a b n 0x80 0xBF k.1)
@@ -72,10 +72,10 @@ module _ (b : ℕ) (ascii : b < 0x80) where
   owes-cut [] r (suc n) low high h = rw (below low high b (omega arith))
   owes-cut (c ∷ p) r zero low high h = after (owed c) (owes-cut p r)
     where
-      after : {l : Lead} → Owed l → Around b p r
+      after : {l : Option Lead} → Owed l → Around b p r
           → on_lead l (λ n low high. owes (p ++ b ∷ r) n low high) ≡ on_lead l (λ n low high. owes p n low high) && utf8 r
       after nothing i = refl
-      after (follow {n = n} {low = low} {high = high} k) i = i n low high (leb-true 0x80 low k)
+      after (some {n = n} {low = low} {high = high} k) i = i n low high (leb-true 0x80 low k)
   owes-cut (c ∷ p) r (suc n) low high h = rw (owes-cut p r n 0x80 0xBF (omega arith), and_assoc)
 
   -- both sides of it

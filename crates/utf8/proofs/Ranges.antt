@@ -1,32 +1,10 @@
--- Laws of `within`, and of `followed` at a position: what the loop over the bytes after a lead byte needs of them.
-use Prim.Native.Nat.{ℕ, zero, suc, ◌+◌, ◌-◌, ◌≤◌, ◌<◌}
-use mathlib.Core.Path.{◌≡◌, refl}
-use mathlib.Core.List.{List}
-use mathlib.Core.Bool.{true, false, ◌&&◌, and-false, and-eq-true_iff}
-use native.Mathlib.Numerals.{add-one, sub-one}
-use native.Mathlib.Omega.{arith}
+-- Laws of `within`.
+use Prim.Native.Nat.{ℕ, ◌≤◌, ◌<◌}
+use mathlib.Core.Path.{◌≡◌}
+use mathlib.Core.Bool.{true, false, and-false, and-eq-true_iff}
 use lib.Dec.{leb}
-use lib.ListN.{length, get_or, drop, drop_of_length-le}
-use lib.Seq.{drop-cons}
 use borrow.Author.Tests.{le-leb, lt-leb, leb-true}
-use Rattle.utf8.specs.Utf8.{within, followed}
-
--- one byte more of those that follow a lead byte
-pub next : (s : List ℕ) (i n low high : ℕ) → 0 < n → i < length s
-    → followed n low high (drop i s) ≡ within low high (get_or s i 0) && followed (n - 1) 0x80 0xBF (drop (i + 1) s)
-unfolding followed
-next s i zero low high h k = absurd (omega arith)
-next s i (suc n) low high h k = rw (drop-cons s i 0 k, add-one, sub-one)
-
-pub missing : (s : List ℕ) (i n low high : ℕ) → 0 < n → length s ≤ i → followed n low high (drop i s) ≡ false
-unfolding followed
-missing s i zero low high h k = absurd (omega arith)
-missing s i (suc n) low high h k = rw (drop_of_length-le s k)
-
-pub enough : (s : List ℕ) (n low high : ℕ) → n ≤ 0 → followed n low high s ≡ true
-unfolding followed
-enough s zero low high h = refl
-enough s (suc n) low high h = absurd (omega arith)
+use Rattle.utf8.specs.Utf8.{within}
 
 pub below : (low high b : ℕ) → b < low → within low high b ≡ false
 unfolding within

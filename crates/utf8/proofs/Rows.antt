@@ -3,19 +3,19 @@ use Prim.Native.Nat.{ℕ, ◌≤◌}
 use mathlib.Core.Path.{◌≡◌}
 use mathlib.Core.Bool.{true}
 use native.Mathlib.Omega.{arith}
-use Rattle.utf8.specs.Utf8.{within, lead_of}
+use Rattle.utf8.specs.Utf8.{within, lead_of, follow}
 use Rattle.utf8.specs.declared.utf8.Lead.{Lead}
-use Rattle.utf8.specs.declared.utf8.Lead.TheVariants.{Follow, Bad}
+use Rattle.std.specs.Prelude.{Option, None}
 use Rattle.text.proofs.Cases.{on-cond}
 use Rattle.utf8.proofs.Ranges.{below, above, inside}
 
 module _ (b : ℕ) where
-  pub ascii : b ≤ 0x7F → Follow 0 0x80 0xBF ≡ lead_of b
+  pub ascii : b ≤ 0x7F → follow 0 0x80 0xBF ≡ lead_of b
   unfolding lead_of
   ascii h = rw (inside 0x00 0x7F b (omega arith) h)
 
   -- 80 to C1: a continuation byte, or the lead of an overlong form
-  pub low : 0x80 ≤ b → b ≤ 0xC1 → Bad ≡ lead_of b
+  pub low : 0x80 ≤ b → b ≤ 0xC1 → None ≡ lead_of b
   unfolding lead_of
   low l h = rw (
     above 0x00 0x7F b l,
@@ -29,19 +29,19 @@ module _ (b : ℕ) where
     below 0xF4 0xF4 b (omega arith),
   )
 
-  pub two : 0xC2 ≤ b → b ≤ 0xDF → Follow 1 0x80 0xBF ≡ lead_of b
+  pub two : 0xC2 ≤ b → b ≤ 0xDF → follow 1 0x80 0xBF ≡ lead_of b
   unfolding lead_of
   two l h = rw (above 0x00 0x7F b (omega arith), inside 0xC2 0xDF b l h)
 
-  pub three : 0xE1 ≤ b → b ≤ 0xEC → Follow 2 0x80 0xBF ≡ lead_of b
+  pub three : 0xE1 ≤ b → b ≤ 0xEC → follow 2 0x80 0xBF ≡ lead_of b
   unfolding lead_of
   three l h = rw (above 0x00 0x7F b (omega arith), above 0xC2 0xDF b (omega arith), above 0xE0 0xE0 b (omega arith), inside 0xE1 0xEC b l h)
 
-  pub three-high : 0xEE ≤ b → b ≤ 0xEF → Follow 2 0x80 0xBF ≡ lead_of b
+  pub three-high : 0xEE ≤ b → b ≤ 0xEF → follow 2 0x80 0xBF ≡ lead_of b
   unfolding lead_of
   three-high l h = rw (above 0x00 0x7F b (omega arith), above 0xC2 0xDF b (omega arith), above 0xE0 0xE0 b (omega arith), above 0xE1 0xEC b (omega arith), above 0xED 0xED b (omega arith), inside 0xEE 0xEF b l h)
 
-  pub four : 0xF1 ≤ b → b ≤ 0xF3 → Follow 3 0x80 0xBF ≡ lead_of b
+  pub four : 0xF1 ≤ b → b ≤ 0xF3 → follow 3 0x80 0xBF ≡ lead_of b
   unfolding lead_of
   four l h = rw (
     above 0x00 0x7F b (omega arith),
@@ -54,7 +54,7 @@ module _ (b : ℕ) where
     inside 0xF1 0xF3 b l h,
   )
 
-  pub high : 0xF5 ≤ b → Bad ≡ lead_of b
+  pub high : 0xF5 ≤ b → None ≡ lead_of b
   unfolding lead_of
   high l = rw (
     above 0x00 0x7F b (omega arith),
@@ -69,16 +69,16 @@ module _ (b : ℕ) where
   )
 
 -- what holds of every row, where b is in it, holds of what b leads
-pub each : (P : Lead → Type 0) (b : ℕ) → (within 0x00 0x7F b ≡ true → P (Follow 0 0x80 0xBF))
-    → (within 0xC2 0xDF b ≡ true → P (Follow 1 0x80 0xBF))
-    → (within 0xE0 0xE0 b ≡ true → P (Follow 2 0xA0 0xBF))
-    → (within 0xE1 0xEC b ≡ true → P (Follow 2 0x80 0xBF))
-    → (within 0xED 0xED b ≡ true → P (Follow 2 0x80 0x9F))
-    → (within 0xEE 0xEF b ≡ true → P (Follow 2 0x80 0xBF))
-    → (within 0xF0 0xF0 b ≡ true → P (Follow 3 0x90 0xBF))
-    → (within 0xF1 0xF3 b ≡ true → P (Follow 3 0x80 0xBF))
-    → (within 0xF4 0xF4 b ≡ true → P (Follow 3 0x80 0x8F))
-    → P Bad
+pub each : (P : Option Lead → Type 0) (b : ℕ) → (within 0x00 0x7F b ≡ true → P (follow 0 0x80 0xBF))
+    → (within 0xC2 0xDF b ≡ true → P (follow 1 0x80 0xBF))
+    → (within 0xE0 0xE0 b ≡ true → P (follow 2 0xA0 0xBF))
+    → (within 0xE1 0xEC b ≡ true → P (follow 2 0x80 0xBF))
+    → (within 0xED 0xED b ≡ true → P (follow 2 0x80 0x9F))
+    → (within 0xEE 0xEF b ≡ true → P (follow 2 0x80 0xBF))
+    → (within 0xF0 0xF0 b ≡ true → P (follow 3 0x90 0xBF))
+    → (within 0xF1 0xF3 b ≡ true → P (follow 3 0x80 0xBF))
+    → (within 0xF4 0xF4 b ≡ true → P (follow 3 0x80 0x8F))
+    → P None
     → P (lead_of b)
 unfolding lead_of
 each P b ascii two e0 e1 ed ee f0 f1 f4 bad =

@@ -15,10 +15,10 @@ use native.Mathlib.Omega.{arith}
 use lib.Dec.{leb, ltb}
 use lib.ListN.{length, drop, length-drop}
 use borrow.Author.Tests.{lt-ltb, le-ltb, le-leb, leb-true, leb-false, ltb-true, ltb-false}
-use Rattle.utf8.specs.Utf8.{within, lead_of, followed, on_lead, owes, utf8}
+use Rattle.utf8.specs.Utf8.{within, lead_of, followed, on_lead, owes, utf8, follow}
 use Rattle.utf8.specs.Scalar.{is_scalar, encoding, encodings, all_scalar, Decoded, Unicode}
 use Rattle.utf8.specs.declared.utf8.Lead.{Lead}
-use Rattle.utf8.specs.declared.utf8.Lead.TheVariants.{Follow, Bad}
+use Rattle.std.specs.Prelude.{Option, None}
 use Rattle.text.proofs.Cases.{by_bool}
 use Rattle.utf8.proofs.Chars.{owes-split}
 use Rattle.utf8.proofs.Ranges.{above, inside, within-bounds}
@@ -119,13 +119,13 @@ rows =
     ∷ []
 
 -- what a lead byte calls for by the rows: the first one that has it decides
-abbrev lead_in : List Row → ℕ → Lead
-lead_in [] b = Bad
+abbrev lead_in : List Row → ℕ → Option Lead
+lead_in [] b = None
 lead_in (row f from to ∷ rs) b =
-    cond (within (lead f from) (lead f to) b) (Follow (suc (more f)) (second f from) (second f to)) (lead_in rs b)
+    cond (within (lead f from) (lead f to) b) (follow (suc (more f)) (second f from) (second f to)) (lead_in rs b)
 
 -- Table 3-7 is the row of the bytes below 80, and these
-lead_of-rows : (b : ℕ) → lead_of b ≡ cond (within 0 0x7F b) (Follow 0 0x80 0xBF) (lead_in rows b)
+lead_of-rows : (b : ℕ) → lead_of b ≡ cond (within 0 0x7F b) (follow 0 0x80 0xBF) (lead_in rows b)
 unfolding lead_of
 lead_of-rows b = refl
 

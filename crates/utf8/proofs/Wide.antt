@@ -9,9 +9,9 @@ use native.Mathlib.Omega.{arith}
 use lib.Dec.{eqb, leb}
 use lib.ListN.{length, get_or}
 use borrow.Author.Tests.{eqb-true, eqb-false, leb-true, leb-false, ne_eqb}
-use Rattle.utf8.specs.Utf8.{within, lead_of, followed, len_after, char_len}
+use Rattle.utf8.specs.Utf8.{within, lead_of, followed, len_after, char_len, follow}
 use Rattle.utf8.specs.declared.utf8.Lead.{Lead}
-use Rattle.utf8.specs.declared.utf8.Lead.TheVariants.{Follow}
+use Rattle.std.specs.Prelude.{Option}
 use Rattle.text.proofs.Cases.{by_bool, on-cond, clash}
 use Rattle.utf8.proofs.Chars.{char_len-le}
 use Rattle.utf8.proofs.Ranges.{inside, within-bounds}
@@ -22,11 +22,11 @@ pub short : (n : ℕ) (s : List ℕ) → length s < n → eqb (char_len s) n ≡
 short n s h = ne_eqb (char_len s) n (λ e. let k = char_len-le s in omega arith)
 
 -- a text is no character of n bytes, r standing after its lead byte
-abbrev Other : ℕ → List ℕ → Lead → Type 0
+abbrev Other : ℕ → List ℕ → Option Lead → Type 0
 Other n r l = eqb (len_after l r) n ≡ false
 
 -- it is none where other than n bytes are asked for
-other : (n : ℕ) (r : List ℕ) (m low high : ℕ) → eqb (suc m) n ≡ false → eqb 0 n ≡ false → Other n r (Follow m low high)
+other : (n : ℕ) (r : List ℕ) (m low high : ℕ) → eqb (suc m) n ≡ false → eqb 0 n ≡ false → Other n r (follow m low high)
 other n r m low high e f = on-cond (λ k. eqb k n ≡ false) (followed m low high r) (λ _. e) (λ _. f)
 
 -- Two bytes: the lead is from C2 to DF.
@@ -65,7 +65,7 @@ least b = cond (eqb b 0xE0) 0xA0 0x80
 abbrev pub most : ℕ → ℕ
 most b = cond (eqb b 0xED) 0x9F 0xBF
 
-lead-three : (b : ℕ) → 0xE0 ≤ b → b ≤ 0xEF → lead_of b ≡ Follow 2 (least b) (most b)
+lead-three : (b : ℕ) → 0xE0 ≤ b → b ≤ 0xEF → lead_of b ≡ follow 2 (least b) (most b)
 unfolding lead_of within
 lead-three b l h =
     by_bool (eqb b 0xE0)

@@ -1,14 +1,16 @@
 ghost use Rattle.std.specs.Prelude.{◌≡◌, ◌+◌, ◌%◌, ◌/◌};
 ghost use Rattle.utf8.specs.Scalar.{is_scalar, encoded_of};
 
-// The bytes that encode a scalar value, zeros after them, and how many they are: none for any other number.
-#[derive(Clone, Copy)]
+// The bytes that encode a scalar value, zeros after them, and how many they are: none for any other number, so that
+// encode asks nothing of its caller. A buffer with its length, since memory is fixed: no slice of it could be handed out.
+#[derive(Clone, Copy, Debug, PartialEq, Eq)]
 pub struct Encoded {
     pub bytes: [u8; 4],
     pub len: usize,
 }
 
 // Whether n is a scalar value: not D800 to DFFF, and at most 10FFFF.
+#[tactic(auto, unfolding(crate::specs::Scalar::is_scalar))]
 pub fn is_scalar(n: u32) -> bool
     ensures { result ≡ is_scalar n }
 {

@@ -1,77 +1,73 @@
 ghost use Rattle.std.specs.Prelude.{◌≡◌, eqb};
+ghost use Rattle.std.specs.List.{list_all};
 ghost use Rattle.utf8.specs.Utf8.{within, lead_of, followed, char_len, utf8};
 
-use text::{First, first_of};
 use text_scans::ascii_eights;
 
 // What a lead byte says (Table 3-7): how many bytes follow, and the range of the second byte.
-#[derive(Clone, Copy)]
-pub enum Lead {
-    Follow(usize, u8, u8),
-    Bad,
+#[derive(Clone, Copy, Debug, PartialEq, Eq)]
+pub struct Lead {
+    pub more: usize,
+    pub low: u8,
+    pub high: u8,
 }
 
-pub fn lead_of(b: u8) -> Lead
+// What b leads; None where it leads no character.
+pub fn lead_of(b: u8) -> Option<Lead>
     ensures { result ≡ lead_of b }
 {
-    match b {
-        0x00..=0x7F => Lead::Follow(0, 0x80, 0xBF),
-        0xC2..=0xDF => Lead::Follow(1, 0x80, 0xBF),
-        0xE0 => Lead::Follow(2, 0xA0, 0xBF),
-        0xE1..=0xEC => Lead::Follow(2, 0x80, 0xBF),
-        0xED => Lead::Follow(2, 0x80, 0x9F),
-        0xEE..=0xEF => Lead::Follow(2, 0x80, 0xBF),
-        0xF0 => Lead::Follow(3, 0x90, 0xBF),
-        0xF1..=0xF3 => Lead::Follow(3, 0x80, 0xBF),
-        0xF4 => Lead::Follow(3, 0x80, 0x8F),
-        _ => Lead::Bad,
+    let (more, low, high) = match b {
+        0x00..=0x7F => (0, 0x80, 0xBF),
+        0xC2..=0xDF => (1, 0x80, 0xBF),
+        0xE0 => (2, 0xA0, 0xBF),
+        0xE1..=0xEC => (2, 0x80, 0xBF),
+        0xED => (2, 0x80, 0x9F),
+        0xEE..=0xEF => (2, 0x80, 0xBF),
+        0xF0 => (3, 0x90, 0xBF),
+        0xF1..=0xF3 => (3, 0x80, 0xBF),
+        0xF4 => (3, 0x80, 0x8F),
+        _ => return None,
+    };
+    Some(Lead { more, low, high })
+}
+
+impl Lead {
+    // Whether s begins with the bytes that follow: the second byte has its range, the others are from 80 to BF.
+    fn is_followed(self, s: &[u8]) -> bool
+        ensures { result ≡ followed self.more self.low self.high s.now }
+    {
+        if s.len() < self.more {
+            return false;
+        }
+        let Some((&second, others)) = s[..self.more].split_first() else {
+            return true;
+        };
+        is_within(self.low, self.high, second) && are_continuations(others)
     }
 }
 
-// Whether s begins with `more` bytes of which the first is from low to high and the others from 80 to BF.
-fn follows(s: &[u8], more: usize, low: u8, high: u8) -> bool
-    ensures { result ≡ followed more low high s.now }
+// Whether every byte of s is from 80 to BF.
+fn are_continuations(s: &[u8]) -> bool
+    ensures { result ≡ list_all (within 0x80 0xBF) s.now }
 {
-    let mut least = low;
-    let mut most = high;
-    let mut left = more;
-    let mut i = 0;
-    while 0 < left {
-        if s.len() <= i {
-            return false;
-        }
-        if s[i] < least {
-            return false;
-        }
-        if most < s[i] {
-            return false;
-        }
-        least = 0x80;
-        most = 0xBF;
-        left -= 1;
-        i += 1;
-    }
-    true
+    s.iter().all(|b| is_within(0x80, 0xBF, *b))
 }
 
 // What char_len answers, by the table.
 fn char_len_by_table(s: &[u8]) -> usize
     ensures { result ≡ char_len s.now }
 {
-    let First::Byte(b) = first_of(s) else {
+    let Some((&b, rest)) = s.split_first() else {
         return 0;
     };
-    let Lead::Follow(more, low, high) = lead_of(b) else {
-        return 0;
-    };
-    if follows(&s[1..], more, low, high) {
-        more + 1
-    } else {
-        0
+    match lead_of(b) {
+        Some(lead) if lead.is_followed(rest) => lead.more + 1,
+        _ => 0,
     }
 }
 
 // Whether b is from low to high. Here and below `&` is no jump, which `&&` would be.
+#[tactic(auto, unfolding(crate::specs::Utf8::within))]
 fn is_within(low: u8, high: u8, b: u8) -> bool
     ensures { result ≡ within low high b }
 {
@@ -79,6 +75,7 @@ fn is_within(low: u8, high: u8, b: u8) -> bool
 }
 
 // Whether s begins with a character of two bytes.
+#[tactic(auto, using(crate::proofs::Wide::short, crate::proofs::Wide::two))]
 fn is_two(s: &[u8]) -> bool
     ensures { result ≡ eqb (char_len s.now) 2 }
 {
@@ -100,8 +97,9 @@ fn is_three(s: &[u8]) -> bool
     is_within(0xE0, 0xEF, s[0]) & is_within(low, high, s[1]) & is_within(0x80, 0xBF, s[2])
 }
 
-// How many bytes the character has that s begins with; 0 where it begins with no well-formed one. Most letters beyond
-// ASCII have two or three bytes, and the table's jump is slow: for these there are ways past it.
+// How many bytes the character has that s begins with; 0 where it begins with no well-formed one. It is a length, 0 where
+// nothing stands, as the rule counts it: a caller adds it to a place, so an Option would only be undone there. Most letters
+// beyond ASCII have two or three bytes, and the table's jump is slow: for these there are ways past it.
 pub fn char_len(s: &[u8]) -> usize
     ensures { result ≡ char_len s.now }
 {
@@ -119,16 +117,16 @@ pub fn char_len(s: &[u8]) -> usize
 pub fn is_utf8(s: &[u8]) -> bool
     ensures { result ≡ utf8 s.now }
 {
-    let mut i = ascii_eights(s);
-    while i < s.len() {
-        if s[i] < 0x80 {
-            i += 1;
+    let mut rest = &s[ascii_eights(s)..];
+    while let Some((&b, tail)) = rest.split_first() {
+        if b < 0x80 {
+            rest = tail;
         } else {
-            let n = char_len(&s[i..]);
+            let n = char_len(rest);
             if n == 0 {
                 return false;
             }
-            i += n;
+            rest = &rest[n..];
         }
     }
     true

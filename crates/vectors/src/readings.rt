@@ -1,36 +1,37 @@
 // The answers of the tokenizer and of the parser, in one batch.
-use crate::answers::words_after;
+use crate::lines::Numbers;
 
-// Whether the numbers from `after` to the line's end are those of n rows.
-fn rows_agree(line: &[u8], after: usize, rows: &[usize], n: usize) -> bool {
-    let mut at = after;
-    let mut i = 0;
-    while i < n {
-        if 1000 <= i {
+// Whether the numbers are those of the first n rows.
+fn rows_agree(mut numbers: Numbers<'_>, rows: &[usize], n: usize) -> bool {
+    let (rows, _) = rows.as_chunks::<7>();
+    let Some(rows) = rows.get(..n) else {
+        return false;
+    };
+    for row in rows {
+        if !numbers.are(&row[..6]) {
             return false;
         }
-        at = words_after(line, at, rows, 7 * i, 6);
-        if at == 0 {
-            return false;
-        }
-        i += 1;
     }
-    at == line.len()
+    numbers.rest.is_empty()
 }
 
 // A text of 256 bytes has at most 512 answers: one batch has room for them all, and one row more.
-pub fn tokens_agree(line: &[u8], s: &[u8], after: usize) -> bool {
-    let mut words = [0usize; 137];
+fn batch_agrees<B: FnOnce(&mut [usize]) -> usize>(batch: B, numbers: Numbers<'_>) -> bool
+    requires { B.IsAlwaysCallable batch }
+{
     let mut rows = [0usize; 3591];
-    tokenizer_words::fresh(&mut words);
-    let n = batches::tokenize(s, &mut words, &mut rows);
-    rows_agree(line, after, &rows, n)
+    let n = batch(&mut rows);
+    rows_agree(numbers, &rows, n)
 }
 
-pub fn parsing_agrees(line: &[u8], s: &[u8], after: usize) -> bool {
+pub fn tokens_agree(s: &[u8], numbers: Numbers<'_>) -> bool {
+    let mut words = [0usize; 137];
+    tokenizer_words::fresh(&mut words);
+    batch_agrees(|rows| batches::tokenize(s, &mut words, rows), numbers)
+}
+
+pub fn parsing_agrees(s: &[u8], numbers: Numbers<'_>) -> bool {
     let mut words = [0usize; 278];
-    let mut rows = [0usize; 3591];
     parser_words::fresh_parser(&mut words);
-    let n = batches::parse(s, &mut words, &mut rows);
-    rows_agree(line, after, &rows, n)
+    batch_agrees(|rows| batches::parse(s, &mut words, rows), numbers)
 }

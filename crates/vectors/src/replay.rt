@@ -1,138 +1,123 @@
 // Each stored answer against the library's.
-use crate::lines::text_of;
+use crate::lines::{Numbers, text_in};
 use crate::look_ups::look_up_agrees;
 use crate::readers::{next_agrees, reader_agrees};
 use crate::readings::{parsing_agrees, tokens_agree};
 use crate::texts::{multiline_agrees, name_agrees, trimming_agrees, utf8_agrees, value_agrees};
+use std::fmt;
 use text::Dropped;
 
-// How many lines of each kind were checked, how many differ or can't be read, and the first of those.
+// What a line's answer is of.
+#[derive(Clone, Copy)]
+pub enum Kind {
+    Utf8,
+    Trimming,
+    Name,
+    Tokens,
+    Parsing,
+    Unescaping,
+    LookUp,
+}
+
+impl Kind {
+    pub const ALL: [Kind; 7] = [
+        Kind::Utf8,
+        Kind::Trimming,
+        Kind::Name,
+        Kind::Tokens,
+        Kind::Parsing,
+        Kind::Unescaping,
+        Kind::LookUp,
+    ];
+}
+
+impl fmt::Display for Kind {
+    fn fmt<W: fmt::Write>(&self, f: &mut fmt::Formatter<W>) -> fmt::Result {
+        f.write_str(match self {
+            Kind::Utf8 => "UTF-8",
+            Kind::Trimming => "trimming",
+            Kind::Name => "names",
+            Kind::Tokens => "tokens, in a batch and by the reader",
+            Kind::Parsing => "parsing, in a batch and by next over a lent state",
+            Kind::Unescaping => "unescaping, and plain parts",
+            Kind::LookUp => "look-ups, and entries",
+        })
+    }
+}
+
+// How many lines of each kind were checked, how many can't be read, how many of all these differ, and the first of them.
 #[derive(Clone, Copy)]
 pub struct Tally {
-    pub utf8: usize,
-    pub trimming: usize,
-    pub names: usize,
-    pub tokens: usize,
-    pub parsing: usize,
-    pub unescaping: usize,
-    pub look_ups: usize,
+    counts: [usize; 7],
     pub unreadable: usize,
     pub differences: usize,
-    pub first: usize,
+    pub first: Option<usize>,
 }
 
-// What a line is.
-#[derive(Clone, Copy)]
-enum Checked {
-    Utf8(bool),
-    Trimming(bool),
-    Name(bool),
-    Tokens(bool),
-    Parsing(bool),
-    Unescaping(bool),
-    LookUp(bool),
-    Unreadable,
-}
+impl Tally {
+    pub fn of(&self, kind: Kind) -> usize {
+        self.counts[kind as usize]
+    }
 
-fn check_line(line: &[u8]) -> Checked {
-    if line.len() < 3 {
-        return Checked::Unreadable;
-    }
-    let t = text_of(line);
-    let bytes = t.bytes;
-    let len = t.len;
-    let after = t.after;
-    if after == 0 {
-        return Checked::Unreadable;
-    }
-    let s = &bytes[..len];
-    match line[0] {
-        b'u' => Checked::Utf8(utf8_agrees(line, s, after)),
-        b'b' => Checked::Trimming(trimming_agrees(line, s, after, Dropped::Blanks)),
-        b's' => Checked::Trimming(trimming_agrees(line, s, after, Dropped::BlanksAndBreaks)),
-        b'n' => Checked::Name(name_agrees(line, s, after)),
-        b't' => Checked::Tokens(tokens_agree(line, s, after) & reader_agrees(line, s, after)),
-        b'p' => Checked::Parsing(parsing_agrees(line, s, after) & next_agrees(line, s, after)),
-        b'v' => Checked::Unescaping(value_agrees(line, s, after)),
-        b'm' => Checked::Unescaping(multiline_agrees(line, s, after)),
-        b'e' => Checked::LookUp(look_up_agrees(line, s, after)),
-        _ => Checked::Unreadable,
+    // One line more, by its number: its kind, and whether it agrees; a line that can't be read doesn't.
+    fn count(&mut self, line: usize, checked: Option<(Kind, bool)>) {
+        match checked {
+            Some((kind, _)) => {
+                let n = &mut self.counts[kind as usize];
+                *n = n.saturating_add(1);
+            }
+            None => self.unreadable = self.unreadable.saturating_add(1),
+        }
+        if !checked.is_some_and(|c| c.1) {
+            self.differences = self.differences.saturating_add(1);
+            self.first = self.first.or(Some(line));
+        }
     }
 }
 
-// One more, up to a million: more lines than the input has room for.
-fn up(n: usize) -> usize {
-    if n < 1000000 { n + 1 } else { n }
-}
-
-fn marked(mut t: Tally, line: usize, agrees: bool) -> Tally {
-    if !agrees {
-        t.differences = up(t.differences);
-        if t.first == 0 {
-            t.first = line;
-        }
-    }
-    t
-}
-
-fn counted(mut t: Tally, line: usize, c: Checked) -> Tally {
-    match c {
-        Checked::Utf8(agrees) => {
-            t.utf8 = up(t.utf8);
-            marked(t, line, agrees)
-        }
-        Checked::Trimming(agrees) => {
-            t.trimming = up(t.trimming);
-            marked(t, line, agrees)
-        }
-        Checked::Name(agrees) => {
-            t.names = up(t.names);
-            marked(t, line, agrees)
-        }
-        Checked::Tokens(agrees) => {
-            t.tokens = up(t.tokens);
-            marked(t, line, agrees)
-        }
-        Checked::Parsing(agrees) => {
-            t.parsing = up(t.parsing);
-            marked(t, line, agrees)
-        }
-        Checked::Unescaping(agrees) => {
-            t.unescaping = up(t.unescaping);
-            marked(t, line, agrees)
-        }
-        Checked::LookUp(agrees) => {
-            t.look_ups = up(t.look_ups);
-            marked(t, line, agrees)
-        }
-        Checked::Unreadable => {
-            t.unreadable = up(t.unreadable);
-            marked(t, line, false)
-        }
-    }
+// The kind of a line, and whether it agrees; none where it can't be read.
+fn check_line(line: &[u8]) -> Option<(Kind, bool)> {
+    let (&[tag, _, _], behind) = line.split_first_chunk::<3>()?;
+    let len = behind.iter().take_while(|b| **b != b' ').count();
+    let (hex, rest) = behind.split_at_checked(len)?;
+    let mut room = [0u8; 256];
+    let s = text_in(hex, &mut room)?;
+    let numbers = Numbers { rest };
+    Some(match tag {
+        b'u' => (Kind::Utf8, utf8_agrees(s, numbers)),
+        b'b' => (Kind::Trimming, trimming_agrees(s, numbers, Dropped::Blanks)),
+        b's' => (
+            Kind::Trimming,
+            trimming_agrees(s, numbers, Dropped::BlanksAndBreaks),
+        ),
+        b'n' => (Kind::Name, name_agrees(s, numbers)),
+        b't' => (
+            Kind::Tokens,
+            tokens_agree(s, numbers) && reader_agrees(s, numbers),
+        ),
+        b'p' => (
+            Kind::Parsing,
+            parsing_agrees(s, numbers) && next_agrees(s, numbers),
+        ),
+        b'v' => (Kind::Unescaping, value_agrees(s, numbers)),
+        b'm' => (Kind::Unescaping, multiline_agrees(s, numbers)),
+        b'e' => (Kind::LookUp, look_up_agrees(s, numbers)),
+        _ => return None,
+    })
 }
 
 pub fn all(s: &[u8]) -> Tally {
-    let mut t = Tally {
-        utf8: 0,
-        trimming: 0,
-        names: 0,
-        tokens: 0,
-        parsing: 0,
-        unescaping: 0,
-        look_ups: 0,
+    let mut tally = Tally {
+        counts: [0; 7],
         unreadable: 0,
         differences: 0,
-        first: 0,
+        first: None,
     };
-    let mut line = 0;
-    let mut at = 0;
-    while at < s.len() {
-        let rest = &s[at..];
-        let n = text::line_end(rest);
-        line = up(line);
-        t = counted(t, line, check_line(&rest[..n]));
-        at += n + 1;
+    let mut number: usize = 0;
+    for line in s.split_inclusive(|b| text::is_newline(*b)) {
+        number = number.saturating_add(1);
+        let text = line.get(..text::line_end(line));
+        tally.count(number, text.and_then(|text| check_line(text)));
     }
-    t
+    tally
 }

@@ -1,4 +1,7 @@
 -- The parser's batches give the parser's list: at each call the words are those of a state of the parsing.
+use Rattle.text.specs.Numbers.{number_of}
+use Rattle.std.specs.Prelude.{Some, None, Ok, Err}
+use Rattle.tokenizer.specs.Token.{Answer, values_of, Values}
 use Prim.Native.Nat.{ℕ, zero, suc, ◌≤◌}
 use mathlib.Core.Path.{◌≡◌, refl, ap}
 use mathlib.Core.List.{List, [], ◌∷◌, ◌++◌, map}
@@ -6,20 +9,15 @@ use mathlib.Core.Bool.{true, false}
 use native.Mathlib.Omega.{arith}
 use lib.ListN.{length, take, drop, length-map}
 use borrow.Author.Tests.{le-leb, ne_eqb}
-use Rattle.tokenizer.specs.Token.{Values}
-use Rattle.parser_rules.specs.Ruling.{values_of}
-use Rattle.parser_rules.specs.declared.ruling.Answer.{Answer}
-use Rattle.parser_rules.specs.declared.ruling.Answer.TheVariants as answer
 use Rattle.parser.specs.Step.{step_of, fresh}
 use Rattle.parser.specs.Lists.{Parses, ends, says, parse}
 use Rattle.parser.specs.declared.state.State.{State}
 use Rattle.parser_claims.specs.Claims.{Fits, All}
 use Rattle.parser_claims.proofs.Claimed as claimed
-use Rattle.batches.specs.Batch.{Taken, taken, taken_batch}
+use Rattle.batches.specs.Batch.{Taken, taken, taken_batch, parsing, parse_batch_of}
 use Rattle.batches.proofs.Branching.{over, took}
 use Rattle.parser_words.specs.ParserWords.{parser_words, parser_in, parser_readable, fresh_parser_in}
 use Rattle.parser_words.specs.Stops.{is_unfit, is_stop}
-use Rattle.batches.specs.Batch.{parsing, parse_batch_of}
 use Rattle.parser_words.specs.Claims.{Slots}
 use Rattle.parser_words.proofs.Slotted.{slotted}
 use Rattle.parser_words.proofs.Claimed.{states-back}
@@ -52,15 +50,15 @@ module _ (d : List ℕ) where
   -- an answer of a parsing does not stop a batch
   goes_on : (a : Answer) → Fits d a → is_stop a ≡ false
   unfolding is_stop
-  goes_on answer.End f = absurd f
-  goes_on (answer.Token t o) f = refl
-  goes_on (answer.Refused n l) f = ne_eqb n 15 (λ e. absurd (omega arith))
+  goes_on None f = absurd f
+  goes_on (Some (Ok t)) f = refl
+  goes_on (Some (Err x)) f = ne_eqb (number_of x.refusal) 15 (λ e. absurd (omega arith))
 
   never-unfit : (a : Answer) → Fits d a → is_unfit a ≡ false
   unfolding is_unfit
-  never-unfit answer.End f = absurd f
-  never-unfit (answer.Token t o) f = refl
-  never-unfit (answer.Refused n l) f = ne_eqb n 15 (λ e. absurd (omega arith))
+  never-unfit None f = absurd f
+  never-unfit (Some (Ok t)) f = refl
+  never-unfit (Some (Err x)) f = ne_eqb (number_of x.refusal) 15 (λ e. absurd (omega arith))
 
   parsing-fit : {s u : State} {l : List Answer} → Parses d s l u → All (Fits d) l → is_unfit (step_of d s).answer ≡ false
   unfolding is_unfit

@@ -1,14 +1,13 @@
 -- The tokenizer's batches give the tokenizer's list: at each call the words are those of a state of the reading.
+use Rattle.tokenizer.specs.Token.{Answer, Values, values_of}
 use Prim.Native.Nat.{ℕ, zero, suc, ◌≤◌}
 use mathlib.Core.Path.{◌≡◌, refl, ap}
 use mathlib.Core.List.{List, [], ◌∷◌, ◌++◌, map}
 use mathlib.Core.Bool.{true}
 use native.Mathlib.Omega.{arith}
 use lib.ListN.{length, take, drop, length-map}
-use Rattle.tokenizer.specs.Token.{Values, values_of}
 use Rattle.tokenizer.specs.Step.{fresh}
 use Rattle.tokenizer.specs.Lists.{is_end, Reads, ends, says, tokens}
-use Rattle.tokenizer.specs.declared.state.Answer.{Answer}
 use Rattle.tokenizer.specs.declared.state.State.{State}
 use Rattle.tokenizer_claims.proofs.Sound.{Sound, fresh-sound, sound-fit}
 use Rattle.tokenizer_claims.proofs.Claimed.{sound-kept}

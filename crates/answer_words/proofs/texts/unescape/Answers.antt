@@ -3,17 +3,19 @@ use mathlib.Core.Path.{◌≡◌, refl, sym, ◌∙◌}
 use native.Mathlib.Omega.{arith}
 use lib.ListN.{length}
 use borrow.Author.Tests.{lt-leb, le-leb}
-use Rattle.unescape.specs.declared.Answer.{Answer}
-use Rattle.unescape.specs.declared.Answer.TheVariants.{Plain, Written, Refused}
+use Rattle.std.specs.Prelude.{Result, Ok, Err}
+use Rattle.unescape.specs.declared.answer.Answer.{Answer}
+use Rattle.unescape.specs.declared.answer.Answer.TheVariants.{Plain, Written}
+use Rattle.unescape.specs.declared.answer.Error.{Error}
 use Rattle.answer_words.specs.Texts.{answer_words, text_of}
 use Rattle.tokenizer_words.proofs.Pasting.{pasted-room, pasted-front}
 use Rattle.answer_words.proofs.texts.unescape.Goals as goal
 
-answer-5 : (a : Answer) → length (answer_words a) ≡ 5
+answer-5 : (a : Result Answer Error) → length (answer_words a) ≡ 5
 unfolding answer_words
-answer-5 (Plain p) = refl
-answer-5 (Written n) = refl
-answer-5 (Refused n l p) = refl
+answer-5 (Ok (Plain p)) = refl
+answer-5 (Ok (Written n)) = refl
+answer-5 (Err e) = refl
 
 pub returns-then-not-has_answer : goal.returns-then-not-has_answer
 unfolding text_of

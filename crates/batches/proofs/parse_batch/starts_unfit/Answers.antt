@@ -1,6 +1,8 @@
 -- A batch of one stops by 15 if the first step does (proofs/Taking).
 use mathlib.Core.Path.{ap, ◌∙◌}
 use lib.Dec.{eqb}
+use Rattle.std.specs.Prelude.{Some}
+use Rattle.std.specs.Option.{option_eq}
 use borrow.Author.Tests.{lt-ltb, le-ltb}
 use Rattle.batches.specs.Walks.{stepping}
 use Rattle.step_words.specs.declared.step.Layer.TheVariants.{Parser}
@@ -14,4 +16,4 @@ returns-then-room-ge7 c = rw (le-ltb _ _ c.if-room-ge7.true)
 pub returns : goal.returns
 returns c =
     rw (lt-ltb _ _ c.if-room-ge7.false)
-    (ap (λ x. eqb x 271) c.take_rows-t.ensures.last_value ∙ last_one (stepping Parser c.args.doc.now) c.args.words.now (not-unfit _))
+    (c.eq.ensures ∙ ap (λ x. option_eq eqb x (Some 271)) c.take_rows-t.ensures.last_value ∙ last_one (stepping Parser c.args.doc.now) c.args.words.now (not-unfit _))

@@ -3,17 +3,17 @@ use mathlib.Core.Path.{◌≡◌, refl, sym, ◌∙◌}
 use native.Mathlib.Omega.{arith}
 use lib.ListN.{length}
 use borrow.Author.Tests.{lt-leb, le-leb}
-use Rattle.look_up.specs.declared.search.Found.{Found}
-use Rattle.look_up.specs.declared.search.Found.TheVariants.{Nothing, At, Refused}
+use Rattle.std.proofs.Common.{None, Some, Ok, Err}
+use Rattle.look_up.specs.Entries.{Outcome}
 use Rattle.found_words.specs.Found.{found_words, found_in}
 use Rattle.tokenizer_words.proofs.Pasting.{pasted-room, pasted-front}
 use Rattle.found_words.proofs.found.look_up.Goals as goal
 
-found-5 : (f : Found) → length (found_words f) ≡ 5
+found-5 : (a : Outcome) → length (found_words a) ≡ 5
 unfolding found_words
-found-5 Nothing = refl
-found-5 (At l p) = refl
-found-5 (Refused n l) = refl
+found-5 (Ok None) = refl
+found-5 (Ok (Some f)) = refl
+found-5 (Err e) = refl
 
 pub returns-then-answer-lt5 : goal.returns-then-answer-lt5
 unfolding found_in

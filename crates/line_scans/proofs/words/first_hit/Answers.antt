@@ -14,7 +14,7 @@ pub overflow_add-result : goal.overflow_add-result
 overflow_add-result c = record { fits = omega (arith, trailing_le 64 c.args.high) }
 
 pub returns-then-n-lt8 : goal.returns-then-n-lt8
-returns-then-n-lt8 c = rw (lt-ltb _ 8 c.if-n-lt8.true)
+returns-then-n-lt8 c = record { value = rw (lt-ltb _ 8 c.if-n-lt8.true); at_most = omega (arith, trailing_le 64 c.args.low) }
 
 pub returns-else-n-lt8 : goal.returns-else-n-lt8
-returns-else-n-lt8 c = rw (le-ltb _ 8 c.if-n-lt8.false)
+returns-else-n-lt8 c = record { value = rw (le-ltb _ 8 c.if-n-lt8.false); at_most = omega (arith, trailing_le 64 c.args.high) }

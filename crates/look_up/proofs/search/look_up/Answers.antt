@@ -18,17 +18,17 @@ loop-found-init c =
 pub on_row-requires : goal.on_row-requires
 on_row-requires c = omega (arith, c.loop-found.invariant.1.counts)
 
-pub returns-in-Ends : goal.returns-in-Ends
-returns-in-Ends c =
+pub returns-in-Break : goal.returns-in-Break
+returns-in-Break c =
     let k = called c.args.doc.now c.loop-found.words c.loop-found.invariant.0 c.next.ensures.words_after c.next.ensures.row_after in
-    finds _ _ _ _ c.loop-found.invariant.1 k.rowed c.on_row.ensures c.in-Ends.is
+    finds _ _ _ _ c.loop-found.invariant.1 k.rowed c.on_row.ensures c.in-Break.is
 
 pub loop-found-smaller : goal.loop-found-smaller
 loop-found-smaller c =
     let k = called c.args.doc.now c.loop-found.words c.loop-found.invariant.0 c.next.ensures.words_after c.next.ensures.row_after in
-    falls _ _ _ _ c.loop-found.invariant.1 k.rowed c.on_row.ensures k.stepped c.in-Goes.is
+    falls _ _ _ _ c.loop-found.invariant.1 k.rowed c.on_row.ensures k.stepped c.in-Continue.is
 
 pub loop-found-preserved : goal.loop-found-preserved
 loop-found-preserved c =
     let k = called c.args.doc.now c.loop-found.words c.loop-found.invariant.0 c.next.ensures.words_after c.next.ensures.row_after in
-    (k.reading, goes_on _ _ _ _ c.loop-found.invariant.1 k.rowed c.on_row.ensures k.stepped c.in-Goes.is)
+    (k.reading, goes_on _ _ _ _ c.loop-found.invariant.1 k.rowed c.on_row.ensures k.stepped c.in-Continue.is)

@@ -1,5 +1,5 @@
--- By cases on what was kept. The tokenizer's promise is of the very step (proofs/Steps).
-use Rattle.parser.proofs.Steps.{equal-steps}
+-- By cases on what was kept. The tokenizer's promise is of the very step.
+use Rattle.tokenizer.proofs.Valued.{equal-steps}
 use Rattle.parser.proofs.state.came.Goals as goal
 
 pub returns-in-Nothing : goal.returns-in-Nothing

@@ -1,5 +1,4 @@
 use Prim.Native.Nat.{◌≤◌}
-use mathlib.Core.Path.{refl}
 use native.Mathlib.Omega.{arith}
 use lib.ListN.{length, length-set}
 use lib.Seq.{take_all}
@@ -10,19 +9,16 @@ use Rattle.parser_words.proofs.words.put_sections.Goals as goal
 
 pub loop-k-init : goal.loop-k-init
 unfolding section_words
-loop-k-init c = (omega arith, (refl, pasted-none _ _))
+loop-k-init c = pasted-none _ _
 
 pub bounds-w-k-in-loop-k : goal.bounds-w-k-in-loop-k
-bounds-w-k-in-loop-k c = simp length-set (omega arith)
+bounds-w-k-in-loop-k c = simp length-set (omega (arith, c.loop-k-test.true))
 
 pub loop-k-preserved : goal.loop-k-preserved
 loop-k-preserved c =
-    (omega arith, (simp length-set c.loop-k.invariant.1.0, rw (c.loop-k.invariant.1.1, c.sort_word.ensures) (write-section _ _ c.args.w.now c.loop-k.k (omega arith) (omega arith))))
-
-pub shape_of-w : goal.shape_of-w
-shape_of-w c = c.loop-k.invariant.1.0
+    rw (c.loop-k.invariant, c.sort_word.ensures) (write-section _ _ c.args.w.now c.loop-k.k (omega (arith, c.loop-k-test.true)) (omega arith))
 
 pub returns : goal.returns
 returns c =
-    let l : length c.args.sections ≤ c.loop-k.k = omega arith in
-    rw (take_all _ _ l) at c.loop-k.invariant.1.1
+    let l : length c.args.sections ≤ c.loop-k.k = omega (arith, c.loop-k-test.false) in
+    rw (take_all _ _ l) at c.loop-k.invariant

@@ -9,11 +9,11 @@ use Rattle.parser.specs.Step.{ChangeFits}
 use Rattle.parser_rules.specs.declared.judging.Judged.{Judged}
 use Rattle.tokenizer_words.specs.Words.{pasted_in}
 use Rattle.front_words.specs.Fronts.{committed}
-use Rattle.step_words.specs.Outcomes.{Few, outcome_by}
+use Rattle.step_words.specs.Outcomes.{outcome_by}
 use Rattle.step_words.specs.Stepping.{came_in, opened_at, judged_in, outcome_for, left_in, gone_by, refused_in, step_in, stops_at, row_in, Gone}
 use Rattle.step_words.specs.declared.outcome.Outcome.{Outcome}
 use Rattle.step_words.specs.declared.step.Layer.{Layer}
-use Rattle.step_words.proofs.Judgements.{Sound, sound, few, change-fits}
+use Rattle.step_words.proofs.Judgements.{Sound, sound, change-fits}
 use Rattle.step_words.proofs.Branches.{Does, refused, goes, stopped, went_on, stops-does, goes-does}
 use Rattle.step_words.proofs.step.step_in.Goals as goal
 
@@ -37,13 +37,6 @@ returns-then-is_refused c =
     subst (λ g. Does g 0 c.args.w.now c.args.at c.args.rows.now c.args.rows.now) (sym e)
     (stops-does 0 c.args.w.now c.args.at c.args.rows.now refl) in
     record { value = both.0; w_after = both.1.0; rows_after = both.1.1 }
-
-pub outcome_of-o-requires : goal.outcome_of-o-requires
-outcome_of-o-requires c =
-    let layer = c.args.layer in
-    let w = c.args.w.now in
-    let n = c.came-m.result.said.number in
-    subst Few (sym c.judged-v.ensures) (few (get_or w 147 0) (judged_in layer n w) (sound layer n w))
 
 pub returns-then-stops : goal.returns-then-stops
 returns-then-stops c =

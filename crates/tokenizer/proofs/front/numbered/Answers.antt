@@ -24,10 +24,10 @@ pub overflow_add-result-in-MultilineValue : goal.overflow_add-result-in-Multilin
 overflow_add-result-in-MultilineValue c =
     omega (arith, ap reach c.in-MultilineValue.is)
 
-pub overflow_add-n : goal.overflow_add-n
+pub overflow_add-from : goal.overflow_add-from
 unfolding values_of token_values
-overflow_add-n c =
-    let h = rw c.in-Refused.is at c.requires.number_bound in omega (arith, h)
+overflow_add-from c =
+    let h = rw c.in-Refused.is at c.requires.number_bound in omega (arith, h, c.from.ensures)
 
 pub returns-in-End : goal.returns-in-End
 unfolding values_of token_values
@@ -72,4 +72,4 @@ returns-in-MultilineValue c =
 
 pub returns-in-Refused : goal.returns-in-Refused
 unfolding values_of token_values
-returns-in-Refused c = rw (c.in-Refused.is, c.say-in-Refused.ensures)
+returns-in-Refused c = rw (c.in-Refused.is, ← c.from.ensures) c.say-in-Refused.ensures

@@ -1,3 +1,4 @@
+-- The loop of `multiline_len`: one more piece at each turn (proofs/Pieces).
 use mathlib.Core.Path.{sym, ◌∙◌}
 use native.Mathlib.Nat.{add-zero}
 use native.Mathlib.Omega.{arith}

@@ -2,10 +2,10 @@
 use Rattle.tokenizer_words.specs.Words.{held_words}
 use Rattle.tokenizer_words.proofs.words.held_words.Goals as goal
 
-pub returns-in-Nothing : goal.returns-in-Nothing
+pub returns-in-None : goal.returns-in-None
 unfolding held_words
-returns-in-Nothing c = rw c.in-Nothing.is
+returns-in-None c = rw c.in-None.is
 
-pub returns-in-At : goal.returns-in-At
+pub returns-in-Some : goal.returns-in-Some
 unfolding held_words
-returns-in-At c = rw c.in-At.is
+returns-in-Some c = rw c.in-Some.is

@@ -1,14 +1,17 @@
--- `measure` adds up the pieces (proofs/Measuring). Invariant: `len` bytes were passed, and they and the text from the cursor on make
--- up the whole. Measure: twice the bytes left, and one more where a line stands.
-use Prim.Native.Nat.{◌+◌, ◌-◌, ◌*◌}
-use lib.ListN.{length, drop}
-use Rattle.unescape_pieces.specs.Pieces.{meaning_from}
-use Rattle.unescape_pieces.proofs.Walking.{weight}
-use Rattle.unescape.proofs.Measuring.{Counted}
+-- `measure` adds up the pieces (proofs/Measuring). Invariant: `len` bytes and those of the text from the cursor on make up the whole,
+-- and they are at most four for each byte that is passed, so that the count has room. Measure: as the cursor has it.
+use Prim.Native.Nat.{◌+◌, ◌*◌, ◌≤◌}
+use mathlib.Core.Path.{◌≡◌}
+use Rattle.unescape_pieces.specs.Cursor.{meaning_of, left, size}
+use Rattle.unescape.specs.Walk.{measured_of}
+use Rattle.unescape.proofs.Measuring.{more}
 use Rattle.unescape.proofs.walk.measure.Given as goal
 
-abbrev pub invariant-loop-skip : goal.invariant-loop-skip
-invariant-loop-skip l = Counted (meaning_from l.initial.spot l.indent (drop l.initial.at l.s) l.initial.at) l.indent l.s l.at l.spot l.len
+abbrev pub invariant-loop-piece : goal.invariant-loop-piece
+invariant-loop-piece l = record {
+  adds_up : measured_of (meaning_of l.fn.cursor) ≡ more l.len (measured_of (meaning_of l.cursor));
+  few : l.len + 4 * left l.cursor ≤ 4 * left l.fn.cursor;
+}
 
-abbrev pub decreases-loop-skip : goal.decreases-loop-skip
-decreases-loop-skip l = 2 * (length l.s - l.at) + weight l.spot
+abbrev pub decreases-loop-piece : goal.decreases-loop-piece
+decreases-loop-piece l = size l.cursor

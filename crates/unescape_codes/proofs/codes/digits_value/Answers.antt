@@ -1,32 +1,22 @@
-use Rattle.std.proofs.Common.{rules}
+use mathlib.Core.Path.{sym, ◌∙◌}
 use Prim.Native.Nat.{◌+◌}
-use mathlib.Core.Path.{refl, sym, ◌∙◌}
-use native.Mathlib.Nat.{one-le-pow}
 use native.Mathlib.Omega.{arith}
-use Rattle.unescape_codes.proofs.Digits.{more, bad, end, grows, room}
+use Rattle.unescape_codes.proofs.Digits.{more, bad, end, grows, room, digit-16}
 use Rattle.unescape_codes.proofs.codes.digits_value.Goals as goal
 
-pub loop-i-init : goal.loop-i-init
-loop-i-init c = (search rules, omega (arith, one-le-pow 0 16 (omega arith)), refl)
-
-pub returns-then-d-ge16 : goal.returns-then-d-ge16
-returns-then-d-ge16 c =
-    sym (c.loop-i.invariant.2 ∙ bad _ _ _ c.loop-i-test.true (rw c.digit-d.ensures at c.if-d-ge16.true))
-
-pub overflow_mul-n : goal.overflow_mul-n
-overflow_mul-n c =
-    omega (arith, grows _ _ _ c.loop-i.invariant.1 c.if-d-ge16.false, room (c.loop-i.i + 1) (omega arith))
+pub returns-in_err-n : goal.returns-in_err-n
+returns-in_err-n c =
+    c.from_residual.ensures ∙ sym (c.loop-b.invariant.1 ∙ bad _ _ _ c.loop-b-test.true (sym c.digit.ensures ∙ c.in_err-n.was))
 
 pub overflow_add-n : goal.overflow_add-n
 overflow_add-n c =
-    omega (arith, room (c.loop-i.i + 1) (omega arith), grows _ _ _ c.loop-i.invariant.1 c.if-d-ge16.false)
+    omega (arith, grows _ _ _ c.loop-b.invariant.0 (digit-16 _ _ (sym c.in_ok-n.ensures)), room (c.loop-b.b-index + 1) (omega arith))
 
-pub loop-i-preserved : goal.loop-i-preserved
-loop-i-preserved c = (
-  search rules,
-  grows _ _ _ c.loop-i.invariant.1 c.if-d-ge16.false,
-  c.loop-i.invariant.2 ∙ more _ _ _ c.loop-i-test.true (rw c.digit-d.ensures at c.if-d-ge16.false) ∙ rw (← c.digit-d.ensures),
+pub loop-b-preserved : goal.loop-b-preserved
+loop-b-preserved c = (
+  grows _ _ _ c.loop-b.invariant.0 (digit-16 _ _ (sym c.in_ok-n.ensures)),
+  c.loop-b.invariant.1 ∙ more _ _ _ c.loop-b-test.true (sym c.in_ok-n.ensures),
 )
 
 pub returns : goal.returns
-returns c = sym (c.loop-i.invariant.2 ∙ end _ _ _ c.loop-i-test.false)
+returns c = sym (c.loop-b.invariant.1 ∙ end _ _ _ c.loop-b-test.false)

@@ -1,40 +1,34 @@
 use Rattle.std.proofs.Common.{rules}
-use lib.ListN.{drop_of_length-le}
-use Rattle.utf8.proofs.Chars.{at_none, at-char, at-le, at_ascii}
+use Rattle.utf8.proofs.Chars.{char_len-le, utf8-none, no-char, past-char}
+use Rattle.utf8.proofs.Unicode.{utf8-ascii}
 use Rattle.text.proofs.Front.{from}
 use Rattle.utf8.proofs.Skipped.{ascii}
-use Rattle.utf8.specs.Utf8.{utf8, owes}
+use Rattle.utf8.specs.Utf8.{utf8}
 use native.Mathlib.Omega.{arith}
-use mathlib.Core.Path.{sym, ◌∙◌}
+use mathlib.Core.Path.{sym, ap, ◌∙◌}
 use Rattle.utf8.proofs.utf8.is_utf8.Goals as goal
 
-pub loop-i-init : goal.loop-i-init
-loop-i-init c = ascii _ _ c.ascii_eights-i.ensures
+pub loop-b-init : goal.loop-b-init
+loop-b-init c = rw from (ascii _ _ c.ascii_eights.ensures.value)
 
-pub loop-i-preserved-then-s-i-lt128 : goal.loop-i-preserved-then-s-i-lt128
-loop-i-preserved-then-s-i-lt128 c = (
-  search rules,
-  c.loop-i.invariant.1 ∙ at-char _ _ _ (at_ascii _ _ c.loop-i-test.true c.if-s-i-lt128.true) c.loop-i-test.true (λ e. absurd (omega (arith, e))),
-)
+pub loop-b-preserved-then-b-lt128 : goal.loop-b-preserved-then-b-lt128
+loop-b-preserved-then-b-lt128 c =
+    c.loop-b.invariant ∙ ap utf8 c.in-Some.ensures.cases.0 ∙ utf8-ascii c.in-Some.field-0-0.now c.in-Some.tail.now c.if-b-lt128.true
 
 pub returns-then-n-eq0 : goal.returns-then-n-eq0
 returns-then-n-eq0 c =
-    sym (c.loop-i.invariant.1 ∙ at_none _ _ _ (sym (rw from at c.char_len-n.ensures)) c.loop-i-test.true c.if-n-eq0.true)
+    sym (c.loop-b.invariant ∙ no-char _ (omega (arith, c.in-Some.ensures.cases.1)) (sym c.char_len-n.ensures ∙ c.if-n-eq0.true))
 
-pub overflow_add-i-else-s-i-lt128 : goal.overflow_add-i-else-s-i-lt128
-overflow_add-i-else-s-i-lt128 c =
-    omega (arith, at-le _ _ _ (sym (rw from at c.char_len-n.ensures)) c.loop-i.invariant.0)
+pub slice_bounds-rest-count-else-b-lt128 : goal.slice_bounds-rest-count-else-b-lt128
+slice_bounds-rest-count-else-b-lt128 c = omega (arith, c.char_len-n.ensures, char_len-le c.loop-b.rest.now)
 
-pub loop-i-smaller : goal.loop-i-smaller
-loop-i-smaller c =
-    omega (arith, at-le _ _ _ (sym (rw from at c.char_len-n.ensures)) c.loop-i.invariant.0)
+pub slice_bounds-rest-start-else-b-lt128 : goal.slice_bounds-rest-start-else-b-lt128
+slice_bounds-rest-start-else-b-lt128 c = let h = char_len-le c.loop-b.rest.now in search rules
 
-pub loop-i-preserved : goal.loop-i-preserved
-loop-i-preserved c = (
-  at-le _ _ _ (sym (rw from at c.char_len-n.ensures)) c.loop-i.invariant.0,
-  c.loop-i.invariant.1 ∙ at-char _ _ _ (sym (rw from at c.char_len-n.ensures)) c.loop-i-test.true c.if-n-eq0.false,
-)
+pub loop-b-preserved : goal.loop-b-preserved
+loop-b-preserved c =
+    c.loop-b.invariant ∙ past-char _ (omega (arith, c.in-Some.ensures.cases.1)) (λ z. c.if-n-eq0.false (c.char_len-n.ensures ∙ z))
+    ∙ rw (from, c.char_len-n.ensures)
 
 pub returns : goal.returns
-unfolding utf8 owes
-returns c = sym (c.loop-i.invariant.1 ∙ rw (drop_of_length-le _ c.loop-i-test.false))
+returns c = sym (c.loop-b.invariant ∙ utf8-none _ c.in_default.ensures.cases)

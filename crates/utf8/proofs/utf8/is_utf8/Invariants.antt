@@ -2,13 +2,12 @@
 -- holds where the eights of bytes below 80 end (proofs/Skipped). Measure: the bytes left, which fall because a character
 -- has at least one.
 use Rattle.utf8.specs.Utf8.{utf8}
-use lib.ListN.{length, drop}
+use lib.ListN.{length}
 use mathlib.Core.Path.{◌≡◌}
-use Prim.Native.Nat.{◌-◌, ◌≤◌}
 use Rattle.utf8.proofs.utf8.is_utf8.Given as goal
 
-abbrev pub invariant-loop-i : goal.invariant-loop-i
-invariant-loop-i l = (l.i ≤ length l.s) × (utf8 l.s ≡ utf8 (drop l.i l.s))
+abbrev pub invariant-loop-b : goal.invariant-loop-b
+invariant-loop-b l = utf8 l.fn.s ≡ utf8 l.rest
 
-abbrev pub decreases-loop-i : goal.decreases-loop-i
-decreases-loop-i l = length l.s - l.i
+abbrev pub decreases-loop-b : goal.decreases-loop-b
+decreases-loop-b l = length l.rest

@@ -1,7 +1,6 @@
 -- `lead_of` is Table 3-7: each arm is one row (proofs/Rows).
-use Rattle.utf8.specs.Utf8.{within}
+use Rattle.utf8.specs.Utf8.{within, lead_of}
 use Rattle.utf8.proofs.Rows.{ascii, low, two, three, three-high, four, high}
-use Rattle.utf8.specs.Utf8.{lead_of}
 use native.Mathlib.Omega.{arith}
 use Rattle.utf8.proofs.utf8.lead_of.Goals as goal
 

@@ -1,8 +1,14 @@
+-- `fits` tests what `fit` does, in its order: each return is the law of the test that fails (proofs/Fitness), and the last is the
+-- law of the open indentations.
 use Prim.Native.Nat.{◌+◌, ◌≤◌, ◌<◌}
-use mathlib.Core.Path.{◌≡◌, refl, sym, ap, ◌∙◌}
+use mathlib.Core.Path.{sym, ◌∙◌}
 use native.Mathlib.Omega.{arith}
-use Rattle.tokenizer.specs.Step.{fit_open}
-use Rattle.tokenizer.proofs.Fitness.{open-decides, open_more, place-past, line-zero, line-past, held-unfit, too-deep}
+use lib.ListN.{take}
+use Rattle.std.proofs.Common.{rules, tests}
+use Rattle.std.proofs.lemmas.Iterator.{YieldsList-from_slice}
+use Rattle.std.proofs.lemmas.Iterator.Search.{all_from_yields_List}
+use Rattle.tokenizer.specs.Step.{fit_part}
+use Rattle.tokenizer.proofs.Fitness.{open-decides, all_open, place-past, line-zero, line-past, held-unfit, too-deep}
 use Rattle.tokenizer.proofs.state.State.fits.Goals as goal
 
 pub returns-then-n-place : goal.returns-then-n-place
@@ -20,18 +26,13 @@ returns-then-not-held_fits c = sym (held-unfit _ _ (sym c.held_fits.ensures ∙ 
 pub returns-then-depth-gt-MAX_OPEN : goal.returns-then-depth-gt-MAX_OPEN
 returns-then-depth-gt-MAX_OPEN c = sym (too-deep _ _ c.if-depth-gt-MAX_OPEN.true)
 
-pub loop-i-init : goal.loop-i-init
-unfolding fit_open
-loop-i-init c = (omega arith, refl)
-
-pub loop-i-preserved : goal.loop-i-preserved
-loop-i-preserved c =
-    (omega arith, open_more _ _ _ c.loop-i.invariant.1 c.part_fits-open_fit.ensures)
-
 pub returns : goal.returns
 returns c =
-    let positive : 0 < c.args.self.line = omega arith in
-    let low : c.args.self.line ≤ c.args.self.place + 1 = omega arith in
-    let all : c.loop-i.i ≡ c.args.self.depth = omega arith in
-    c.loop-i.invariant.1 ∙ ap (fit_open c.args.n c.args.self.indents) all
-    ∙ sym (open-decides c.args.n c.args.self c.if-n-place.false positive low (sym c.held_fits.ensures ∙ c.if-not-held_fits.false) c.if-depth-gt-MAX_OPEN.false)
+    let s = c.args.self in
+    let n = c.args.n in
+    let positive : 0 < s.line = omega arith in
+    let low : s.line ≤ s.place + 1 = omega arith in
+    let held = sym c.held_fits.ensures ∙ c.if-not-held_fits.false in
+    all_from_yields_List (fit_part n) _ _ _ c.all.ensures.ran (YieldsList-from_slice (take s.depth s.indents) c.iter.ensures.rest) (λ x b q k. search (rules, tests))
+    ∙ all_open n s.indents s.depth (omega arith)
+    ∙ sym (open-decides n s c.if-n-place.false positive low held c.if-depth-gt-MAX_OPEN.false)

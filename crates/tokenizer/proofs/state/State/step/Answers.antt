@@ -9,12 +9,13 @@ use lib.ListN.{get_or, drop, length-drop}
 use Rattle.text.proofs.Front.{from}
 use Rattle.tokenizer_rules.specs.Plan.{plan_at}
 use Rattle.tokenizer.specs.Step.{no_part, bytes_of, plan_with, step_with, step_rule}
-use Rattle.tokenizer.specs.declared.state.Step.{Step}
 use Rattle.tokenizer.proofs.Bounds.{room}
 use Rattle.tokenizer.proofs.Fitness.{fitness, inner-fit, inner_last}
 use Rattle.tokenizer.proofs.Kept.{indent-fit}
 use Rattle.tokenizer.proofs.Steps.{over, unfit, ruled, promised}
 use Rattle.tokenizer.proofs.state.State.step.Goals as goal
+use Rattle.tokenizer.specs.declared.state.State.{State}
+use Rattle.tokenizer.specs.declared.state.Step.{Step}
 
 pub returns-then-doc-gt-MAX_DOCUMENT : goal.returns-then-doc-gt-MAX_DOCUMENT
 returns-then-doc-gt-MAX_DOCUMENT c =
@@ -78,7 +79,7 @@ returns c =
     let i = c.indent_at-i.result in
     let plan : c.planned-p.result ≡ plan_with d s i.part i.size =
     c.planned-p.ensures ∙ ap (λ p. plan_at s.marks s.depth (bytes_of d p) (bytes_of d i.part) (drop s.place d) i.size) inner in
-    let made : Path Step (record { answer = c.answered-answer.result; state = c.after-state.result }) (step_with d s i.part i.size) =
+    let made : Path (Step State) (record { answer = c.answered-answer.result; state = c.after-state.result }) (step_with d s i.part i.size) =
     rw (c.answered-answer.ensures, c.after-state.ensures, plan) in
     let part = rw from at c.indent_at-i.ensures.part_value in
     let size = rw from at c.indent_at-i.ensures.size_value in
