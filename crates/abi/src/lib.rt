@@ -120,9 +120,9 @@ pub extern "C" fn conl_unescape(
     answer_words::unescape(doc, row, out, answer)
 }
 
-// Unescapes the text of a token, given the token's kind, line and indentation, and writes the answer at the front of its
-// words as conl_unescape does, with places counted from the text's start. False, with nothing written, where kind is not 1
-// to 10 or there are fewer than five words for the answer.
+// Unescapes the text of a token, given the token's kind, line and indentation, and writes the answer at the front of
+// its words as conl_unescape does, with places counted from the text's start. False, with nothing written, where kind
+// is not 1 to 10 or there are fewer than five words for the answer.
 #[unsafe(no_mangle)]
 pub extern "C" fn conl_unescape_text(
     kind: usize,
@@ -139,9 +139,9 @@ pub extern "C" fn conl_unescape_text(
     answer_words::unescape_text(kind, line, text, indent, out, answer)
 }
 
-// Looks up the first top-level key whose text, unescaped, is wanted, and writes the answer at the front of its words: 0,
-// 0, 0, 0, 0 for nothing; 1, 0, the key's line, start and end of its entry; 2, a refusal's number, its line, 0, 0. False,
-// with nothing written, where there are fewer than five words for the answer.
+// Looks up the first top-level key whose text, unescaped, is wanted, and writes the answer at the front of its words:
+// 0, 0, 0, 0, 0 for nothing; 1, 0, the key's line, start and end of its entry; 2, a refusal's number, its line, 0, 0.
+// False, with nothing written, where there are fewer than five words for the answer.
 #[unsafe(no_mangle)]
 pub extern "C" fn conl_look_up(doc: &[u8], wanted: &[u8], answer: &mut [usize]) -> bool
     ensures value { result ≡ leb 5 (length answer.old) }

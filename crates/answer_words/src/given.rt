@@ -11,8 +11,9 @@ fn is_kind(kind: usize) -> bool
     (1 <= kind) & (kind <= 10)
 }
 
-// Unescapes the text of a token, given the token's kind and line, and writes the answer at the front of its words: true;
-// or false, with nothing written, where there is no such kind or there are fewer than five words for the answer.
+// Unescapes the text of a token, given the token's kind and line, and writes the answer at the front of its words:
+// true; or false, with nothing written, where there is no such kind or there are fewer than five words for the answer.
+#[tactic(auto, using(crate::proofs::Front::five_in_front, std::proofs::lemmas::Bool::Decides::nat_tests), unfolding(crate::specs::Given::given_text_of))]
 pub fn unescape_text(
     kind: usize,
     line: usize,

@@ -46,8 +46,9 @@ fn has_answer(doc: &[u8], row: &[usize]) -> bool
     is_token(row)
 }
 
-// Unescapes the token of a row and writes the answer at the front of its words: true; or false, with nothing written, where
-// there are fewer than five words for the answer, or the row is no token's and the document is within the limit.
+// Unescapes the token of a row and writes the answer at the front of its words: true; or false, with nothing written,
+// where there are fewer than five words for the answer, or the row is no token's and the document is within the limit.
+#[tactic(auto, using(crate::proofs::Front::five_in_front, std::proofs::lemmas::Bool::Decides::nat_tests), unfolding(crate::specs::Texts::text_of))]
 pub fn unescape(doc: &[u8], row: &[usize], out: &mut [u8], answer: &mut [usize]) -> bool
     ensures value { result ≡ (text_of doc.now row.now out.old answer.old).result }
     ensures out_after { out.new ≡ (text_of doc.now row.now out.old answer.old).buffer }

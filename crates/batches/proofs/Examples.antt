@@ -6,10 +6,11 @@ use mathlib.Core.List.{List, [], ◌∷◌}
 use lib.ListN.{drop, replicate}
 use Rattle.text.specs.Ascii.{ascii}
 use Rattle.tokenizer.specs.Token.{token_values, values_of}
+use Rattle.tokenizer.specs.Said.{token_of}
 use Rattle.tokenizer.proofs.Examples.{rules as token_rules}
 use Rattle.parser.specs.Step.{innermost_of, sections_after, count_after, after_verdict, step_with, step_kept, step_of, fresh}
 use Rattle.parser.proofs.Examples.{rules as parsing_rules}
-use Rattle.tokenizer_rows.specs.Rows.{rows_of, rows_in, token_by, token_in}
+use Rattle.tokenizer_rows.specs.Rows.{rows_of, rows_in, token_in}
 use Rattle.tokenizer_words.specs.Words.{flag, held_words, part_words, front_words, words_of, stored_in, parts_in, state_in, readable, fresh_in}
 use Rattle.parser_words.specs.ParserWords.{
   sort_word,
@@ -57,7 +58,7 @@ unfolding
     sort_in
     sections_in
     awaited_in
-    token_by
+    token_of
     token_in
     kept_in
     parser_in

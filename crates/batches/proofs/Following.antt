@@ -13,6 +13,7 @@ use Rattle.tokenizer.specs.Step.{fit, step_of as token_step}
 use Rattle.tokenizer.specs.Lists.{is_end}
 use Rattle.tokenizer.specs.declared.state.State.{State as Tokenizer}
 use Rattle.tokenizer.proofs.Kept.{step-fit}
+use Rattle.tokenizer.proofs.Valued.{end-number}
 use Rattle.tokenizer.proofs.Advancing.{step-number}
 use Rattle.parser.specs.Step.{step_of}
 use Rattle.parser.specs.declared.state.State.{State}
@@ -27,7 +28,6 @@ use Rattle.step_words.specs.Stepping.{stops_at, Gone}
 use Rattle.batches.specs.Walks.{values_by, stepping}
 use Rattle.step_words.specs.Claims.{Whole}
 use Rattle.step_words.specs.declared.step.Layer.TheVariants.{Tokenizer as Tokens, Parser as Parses}
-use Rattle.front_words.proofs.Fronts.{end-number}
 use Rattle.step_words.proofs.Going.{stop_is}
 use Rattle.step_words.proofs.Whole.{step-whole}
 use Rattle.step_words.proofs.Laws.{tokenizer-steps, parser-steps}

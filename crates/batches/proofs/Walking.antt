@@ -7,7 +7,7 @@ use lib.Dec.{ltb}
 use lib.ListN.{length, get_or}
 use borrow.Author.Tests.{ltb-true, ltb-false}
 use Rattle.text.proofs.Cases.{by_bool}
-use Rattle.tokenizer.specs.Front.{said_by}
+use Rattle.tokenizer.specs.Said.{said_by}
 use Rattle.parser.specs.Step.{step_of}
 use Rattle.parser.specs.declared.state.State.{State}
 use Rattle.parser.proofs.Steps.{over}

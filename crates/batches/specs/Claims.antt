@@ -1,7 +1,7 @@
 -- The law that ties `next` to the parser's step: what the walks inside the library go by. proofs/Walking proves it.
 use Rattle.tokenizer.specs.Token.{values_of}
 use Rattle.std.specs.Prelude.{ℕ, ◌≡◌, List}
-use Rattle.tokenizer.specs.Front.{said_by}
+use Rattle.tokenizer.specs.Said.{said_by}
 use Rattle.parser.specs.Step.{step_of}
 use Rattle.parser_words.specs.ParserWords.{parser_in}
 use Rattle.step_words.specs.Claims.{Reading}

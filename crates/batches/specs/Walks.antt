@@ -3,7 +3,7 @@
 use Rattle.std.specs.Prelude.{ℕ, List, cond, ltb, length, Option, Some, None}
 use Rattle.text.specs.Numbers.{max_document, too_long}
 use Rattle.tokenizer.specs.Token.{Values, refusal_number}
-use Rattle.tokenizer.specs.declared.front.Said.{Said}
+use Rattle.tokenizer.specs.declared.said.Said.{Said}
 use Rattle.step_words.specs.Stepping.{stops_at, Gone, stays, step_in}
 use Rattle.step_words.specs.declared.step.Layer.{Layer}
 use Rattle.step_words.specs.declared.step.Layer.TheVariants.{Parser}

@@ -1,5 +1,5 @@
-// What goes over the steps in words: a batch of either reading for callers in C and Rust, and the parser's next answer for the
-// walks inside the library.
+// What goes over the steps in words: a batch of either reading for callers in C and Rust, and the parser's next answer
+// for the walks inside the library.
 #![tactic(auto)]
 
 mod parse_batch;

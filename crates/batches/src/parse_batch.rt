@@ -7,10 +7,11 @@ ghost use Rattle.step_words.specs.declared.step.Layer.TheVariants.{Parser};
 use crate::rows::{TOO_LONG, UNFIT, take_rows};
 use parser_words::restore_parser;
 use step_words::Layer;
-use tokenizer::State;
+use tokenizer::{Said, State};
 use tokenizer_words::paste;
 
-// Whether the first step is 15 where fewer than seven words leave no room for its row: it is tried on a copy of the words.
+// Whether the first step is 15 where fewer than seven words leave no room for its row: it is tried on a copy of the
+// words.
 fn starts_unfit(doc: &[u8], words: &[usize; 278], room: usize) -> bool
     ensures { result ≡ (ltb room 7 && eqb (step_in Parser doc.now words.now).said.number 271) }
 {
@@ -20,11 +21,11 @@ fn starts_unfit(doc: &[u8], words: &[usize; 278], room: usize) -> bool
     let mut tried = *words;
     let mut row = [0usize; 7];
     let t = take_rows(doc, Layer::Parser, &mut tried, &mut row);
-    t.last == Some(271)
+    t.last == Some(Said::UNFIT)
 }
 
-// Takes answers until End or 15 comes or no room is left for a row: how many; or, with nothing written, a refusal: 12, or 15
-// where the words or the first step say so.
+// Takes answers until End or 15 comes or no room is left for a row: how many; or, with nothing written, a refusal: 12,
+// or 15 where the words or the first step say so.
 pub fn parse(doc: &[u8], state: &mut [usize], rows: &mut [usize]) -> usize
     ensures value { result ≡ (parse_batch_of doc.now state.old rows.old).result }
     ensures state_after { state.new ≡ (parse_batch_of doc.now state.old rows.old).words }
@@ -41,7 +42,7 @@ pub fn parse(doc: &[u8], state: &mut [usize], rows: &mut [usize]) -> usize
         return UNFIT;
     }
     let t = take_rows(doc, Layer::Parser, &mut words, rows);
-    if (t.rows == 0) & (t.last == Some(271)) {
+    if (t.rows == 0) & (t.last == Some(Said::UNFIT)) {
         return UNFIT;
     }
     paste(&words, 0, state);

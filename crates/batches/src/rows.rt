@@ -5,11 +5,12 @@ ghost use Rattle.batches.specs.Batch.{taken};
 ghost use Rattle.batches.specs.Walks.{stepping, last_of, next_of};
 
 use step_words::{Layer, step_in, stops};
-use tokenizer::State;
-use tokenizer_rows::bare_row;
+use text::Refusal;
+use tokenizer::{Said, State};
+use tokenizer_rows::{bare_row, said_row};
 
-// The refusals before the first step: 2^63, which is above any count of rows, and 12 or 15. Numbers, since C has one for
-// a batch's answer.
+// The refusals before the first step: 2^63, which is above any count of rows, and 12 or 15. Numbers, since C has one
+// for a batch's answer.
 pub(crate) const TOO_LONG: usize = 0x8000_0000_0000_000C;
 
 pub(crate) const UNFIT: usize = 0x8000_0000_0000_000F;
@@ -44,14 +45,14 @@ pub(crate) fn take_rows(doc: &[u8], layer: Layer, w: &mut [usize; 278], rows: &m
     }
 }
 
-// The parser's next answer, in its row, and the words after it: 12, then 15 where what this step uses is unfit, then the step. Of
-// the words of a fit state it is the parser's step.
+// The parser's next answer, in its row, and the words after it: 12, then 15 where what this step uses is unfit, then
+// the step. Of the words of a fit state it is the parser's step.
 pub fn next(doc: &[u8], words: &mut [usize; 278], row: &mut [usize; 7])
     ensures words_after { words.new ≡ (next_of doc.now words.old).words }
     ensures row_after { row.new ≡ row_by (next_of doc.now words.old).said }
 {
     if State::MAX_DOCUMENT < doc.len() {
-        *row = bare_row(268, 0);
+        *row = said_row(Said::refused(Refusal::TooLong, 0));
         return;
     }
     let t = take_rows(doc, Layer::Parser, words, row);

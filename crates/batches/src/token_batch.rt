@@ -7,7 +7,8 @@ use step_words::Layer;
 use tokenizer::State;
 use tokenizer_words::{paste, restore};
 
-// Takes answers until End comes or no room is left for a row: how many; or, with nothing written, a refusal, 12 before 15.
+// Takes answers until End comes or no room is left for a row: how many; or, with nothing written, a refusal, 12 before
+// 15.
 pub fn tokenize(doc: &[u8], state: &mut [usize], rows: &mut [usize]) -> usize
     ensures value { result ≡ (batch_of doc.now state.old rows.old).result }
     ensures state_after { state.new ≡ (batch_of doc.now state.old rows.old).words }

@@ -17,8 +17,9 @@ fn found_words(answer: Outcome) -> [usize; 5]
     }
 }
 
-// Looks the name up and writes the answer at the front of its words: true; or false, with nothing written, where there are fewer
-// than five.
+// Looks the name up and writes the answer at the front of its words: true; or false, with nothing written, where there
+// are fewer than five.
+#[tactic(auto, using(answer_words::proofs::Front::five_in_front, std::proofs::lemmas::Bool::Decides::nat_tests), unfolding(crate::specs::Found::found_in))]
 pub fn look_up(doc: &[u8], wanted: &[u8], answer: &mut [usize]) -> bool
     ensures value { result ≡ leb 5 (length answer.old) }
     ensures answer_after { answer.new ≡ found_in doc.now wanted.now answer.old }

@@ -1,13 +1,9 @@
 -- The tokenizer's part of the words: what a step reads there, and what it leaves there, is what stands in the state.
-use Rattle.text.specs.Numbers.{number_of}
-use Rattle.std.specs.Prelude.{Some, None, Ok, Err}
-use Rattle.tokenizer.specs.Token.{Answer, token_values, values_of}
 use Prim.Native.Nat.{ℕ, zero, suc, ◌+◌, ◌*◌, ◌≤◌, ◌<◌}
 use mathlib.Core.Path.{◌≡◌, refl, sym, ap, ◌∙◌}
 use mathlib.Core.List.{List, ◌++◌, append_assoc}
 use mathlib.Core.Bool.{true}
 use native.Mathlib.Omega.{arith}
-use lib.Dec.{eqb, eqb-suc-zero}
 use lib.ListN.{length, drop, get_or, length-append, length-drop, get_or-eq_default}
 use lib.Seq.{get_or-drop, drop-drop}
 use borrow.Author.Tests.{lt-ltb}
@@ -16,18 +12,16 @@ use Rattle.tokenizer_rules.specs.declared.plan.Change.{Change}
 use Rattle.tokenizer_rules.specs.declared.plan.Change.TheVariants.{Keep, Open, Close, Hold}
 use Rattle.tokenizer.specs.Step.{no_part, inner_of, indents_after, depth_after, fit, step_of}
 use Rattle.tokenizer.specs.Front.{front_of, ahead_of}
-use Rattle.tokenizer.specs.Lists.{is_end}
 use Rattle.tokenizer.specs.declared.front.Front.{Front}
 use Rattle.tokenizer.specs.declared.state.State.{State}
-use Rattle.tokenizer.specs.declared.token.Token.TheVariants as token
 use Rattle.tokenizer.proofs.Fitness.{fitness}
 use Rattle.tokenizer.proofs.Kept.{step-fit}
 use Rattle.tokenizer.proofs.Advancing.{step-front, step-indents, step-depth}
 use Rattle.tokenizer_words.specs.Words.{pasted_in, part_words, front_words, words_of, parts_in, state_in}
 use Rattle.tokenizer_words.proofs.Pasting.{pasted-room, pasted-front}
-use Rattle.tokenizer_words.proofs.Slots.{part-words-length, parts-length, held-words}
+use Rattle.tokenizer_words.proofs.Slots.{part-words-length, parts-length, front-9}
 use Rattle.tokenizer_words.proofs.Standing.{part_at, slots-back, slot-set, pasted-behind}
-use Rattle.front_words.specs.Fronts.{front_words_by, slot_in, committed}
+use Rattle.front_words.specs.Fronts.{slot_in, committed}
 
 -- the innermost of n open indentations
 pub inner-at : (w : List ℕ) (n : ℕ) → (n ≡ 0 → ⊥) → n ≤ 64
@@ -63,25 +57,17 @@ not-open Open i n w h = absurd (h refl)
 not-open Close i n w h = refl
 not-open Hold i n w h = refl
 
-by-9 : (f : Front) → length (front_words_by f) ≡ 9
-unfolding front_words_by
-by-9 f = rw (← held-words f.held f.depth)
-
-front_by : (t : State) → front_words t ≡ front_words_by (front_of t)
-unfolding front_words front_words_by
-front_by t = refl
-
 -- the front's words written at the front, and then the slot: the words of the state after
 pub stepped : (w : List ℕ) (c : Change) (i : Part) (n : ℕ) (f : Front) (t : State) → 137 ≤ length w → f ≡ front_of t → depth_after c n ≤ 64
-    → t.indents ≡ indents_after c i (parts_in 64 (drop 9 w)) n → slot_in c i n (pasted_in (front_words_by f) 0 w) ≡ words_of t ++ drop 137 w
+    → t.indents ≡ indents_after c i (parts_in 64 (drop 9 w)) n → slot_in c i n (pasted_in (front_words f) 0 w) ≡ words_of t ++ drop 137 w
 unfolding words_of
 stepped w c i n f t h e k q =
     let is = parts_in 64 (drop 9 w) in
     let b : part_words is ++ drop 137 w ≡ drop 9 w = rw (drop-drop 128 9 w) at (slots-back 64 (drop 9 w) (omega (arith, length-drop 9 w))) in
-    let p : pasted_in (front_words_by f) 0 w ≡ front_words_by f ++ (part_words is ++ drop 137 w) =
-    pasted-room (front_words_by f) w 0 (omega (arith, by-9 f)) ∙ pasted-front (front_words_by f) w ∙ rw (by-9 f, b) in
-    ap (slot_in c i n) p ∙ slot-in c i n (front_words_by f) (drop 137 w) is (by-9 f) (parts-length 64 (drop 9 w)) k
-    ∙ rw (← q, e, front_by t, append_assoc)
+    let p : pasted_in (front_words f) 0 w ≡ front_words f ++ (part_words is ++ drop 137 w) =
+    pasted-room (front_words f) w 0 (omega (arith, front-9 f)) ∙ pasted-front (front_words f) w ∙ rw (front-9 f, b) in
+    ap (slot_in c i n) p ∙ slot-in c i n (front_words f) (drop 137 w) is (front-9 f) (parts-length 64 (drop 9 w)) k
+    ∙ rw (← q, e, append_assoc)
 
 -- what a step comes to, written: the words of the state after it
 pub step-committed : (d w : List ℕ) → length d ≤ 16777216 → 137 ≤ length w → fit (length d) (state_in w) ≡ true
@@ -93,19 +79,3 @@ step-committed d w l h e =
     let g = (fitness (length d) (step_of d s).state (step-fit d s l e)).depth in
     stepped w m.change m.indent s.depth m.front (step_of d s).state h (step-front d s l e)
     (omega (arith, step-depth d s l e, g)) (step-indents d s l e)
-
--- End has the number 0, and nothing else
-pub end-number : (a : Answer) → eqb (values_of a).number 0 ≡ is_end a
-unfolding values_of token_values is_end
-end-number None = refl
-end-number (Some (Ok (token.Newline l))) = refl
-end-number (Some (Ok (token.Comment l p))) = refl
-end-number (Some (Ok (token.Indent l))) = refl
-end-number (Some (Ok (token.Outdent l o))) = refl
-end-number (Some (Ok (token.ListItem l))) = refl
-end-number (Some (Ok (token.MapKey l p))) = refl
-end-number (Some (Ok (token.Value l p))) = refl
-end-number (Some (Ok (token.MultilineHint l p))) = refl
-end-number (Some (Ok (token.MultilineValue l i p))) = refl
-end-number (Some (Ok (token.NoValue l))) = refl
-end-number (Some (Err x)) = let n = number_of x.refusal in let e : 256 + n ≡ suc (255 + n) = omega arith in rw (e, eqb-suc-zero)

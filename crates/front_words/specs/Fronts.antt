@@ -1,17 +1,10 @@
 -- Intermediate, tied to the law by proofs/Fronts: what one step of the tokenizer leaves in the words.
-use Rattle.std.specs.Prelude.{ℕ, ◌+◌, ◌*◌, List, [], ◌∷◌, ◌++◌, cond, ltb, get_or}
+use Rattle.std.specs.Prelude.{ℕ, ◌+◌, ◌*◌, List, [], ◌∷◌, cond, ltb, get_or}
 use Rattle.text.specs.declared.bytes.Part.{Part}
-use Rattle.tokenizer.specs.declared.front.Front.{Front}
 use Rattle.tokenizer.specs.declared.front.Advanced.{Advanced}
 use Rattle.tokenizer_rules.specs.declared.plan.Change.{Change}
 use Rattle.tokenizer_rules.specs.declared.plan.Change.TheVariants.{Keep, Open, Close, Hold}
-use Rattle.tokenizer_words.specs.Words.{pasted_in, flag, held_words}
-
--- a state's words but for the slots
-unfoldable pub front_words_by : Front → List ℕ
-front_words_by f =
-    f.place ∷ f.line ∷ flag f.marks.indent ∷ flag f.marks.value ∷ flag f.marks.multiline
-    ∷ (held_words f.held ++ (f.depth ∷ []))
+use Rattle.tokenizer_words.specs.Words.{pasted_in, front_words}
 
 -- the words with an indentation that opens in its slot, n being open
 unfoldable pub slot_in : Change → Part → ℕ → List ℕ → List ℕ
@@ -22,4 +15,4 @@ slot_in Hold i n w = w
 
 -- the words with what a step comes to
 unfoldable pub committed : Advanced → List ℕ → List ℕ
-committed m w = slot_in m.change m.indent (get_or w 8 0) (pasted_in (front_words_by m.front) 0 w)
+committed m w = slot_in m.change m.indent (get_or w 8 0) (pasted_in (front_words m.front) 0 w)

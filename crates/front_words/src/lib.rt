@@ -3,4 +3,4 @@
 
 mod front;
 
-pub use front::{commit, front_in, inner_in};
+pub use front::{commit, inner_in};

@@ -29,7 +29,8 @@ use Rattle.parser_claims.proofs.Tokens.{step-told}
 use Rattle.parser_claims.proofs.Rulings.{stand, Tied, Settled, gives, stops, Outcome, once, twice, outcome}
 use Rattle.joining_claims.proofs.Tops.{level, Turn, Runs, done, more, runs_append, top-sort}
 use Rattle.joining_claims.proofs.Ruled.{Keeps, Turns, ruling-turns}
-use Rattle.joining_claims.proofs.Feeding.{fed}
+use Rattle.joining_claims.proofs.Feeding.{fed, again}
+use Rattle.joining_claims.proofs.Behind.{at_top}
 
 -- One answer of the tokenizer, over the list of sections
 
@@ -41,11 +42,8 @@ once_runs s Unfit t h g = absurd (clash (sym g))
 
 -- a NoValue, and what was kept behind it
 again-runs : (s : Stand) (v : Verdict) (c : Came) → (v.refused ≡ false → Turn s.sections v.answer v.change)
-    → (v.refused ≡ false) × (v.change ≡ Keep)
-    → 0 < length s.sections → 0 < length (fed_once (stand_after s v) (ruled (stand_after s v) c)).next.sections
-    → (fed_once (stand_after s v) (ruled (stand_after s v) c)).goes_on ≡ true
-    → Runs s.sections (v.answer ∷ (fed_once (stand_after s v) (ruled (stand_after s v) c)).says)
-    (fed_once (stand_after s v) (ruled (stand_after s v) c)).next.sections
+    → (v.refused ≡ false) × (v.change ≡ Keep) → 0 < length s.sections → 0 < length (again s v c).next.sections
+    → (again s v c).goes_on ≡ true → Runs s.sections (v.answer ∷ (again s v c).says) (again s v c).next.sections
 again-runs s v c f k n h g =
     more (f k.0) (subst (λ x. 0 < length (stack_after x s.sections)) (sym k.1) n)
     (once_runs (stand_after s v) (ruled (stand_after s v) c) (ruling-turns (stand_after s v).sections v.awaited c) h g)
@@ -114,7 +112,7 @@ module _ (d : List ℕ) (h : length d ≤ 16777216) where
 -- at the end no section is open but the top level
 pub record Topped (f : Fed) : Type 0 where
   pub sort : Sort
-  pub sections : f.next.sections ≡ level sort ∷ []
+  pub next : f.next ≡ at_top f.next.awaited sort
   pub runs : Runs (no_sort ∷ []) f.says (level sort ∷ [])
 
 pub stands_at_top : (d : List ℕ) → length d ≤ 16777216 → (fed fresh_stand (tokens d)).goes_on ≡ true → Topped (fed fresh_stand (tokens d))
@@ -122,4 +120,5 @@ stands_at_top d h g =
     let e = reading-ends d h in
     let s = stands d h e.reads (fresh-sound d) fresh_stand (fresh-tied d) g in
     let o = top-sort s.runs (s.tied.sections ∙ ap suc e.closed) in
-    record { sort = _; sections = o; runs = rw o at s.runs }
+    let w = (fed fresh_stand (tokens d)).next.awaited in
+    record { sort = _; next = λ i. record { awaited = w; sections = o i }; runs = rw o at s.runs }

@@ -7,7 +7,6 @@ use Prim.Native.Nat.{ℕ}
 use mathlib.Core.Path.{◌≡◌, refl}
 use mathlib.Core.List.{List, [], ◌∷◌, ◌++◌}
 use mathlib.Core.Bool.{true}
-use native.Mathlib.Omega.{arith}
 use lib.ListN.{length}
 use Rattle.text.specs.Bytes.{part}
 use Rattle.text.specs.Ascii.{ascii}
@@ -28,7 +27,7 @@ Apart p s l m = (tokens (p ++ s) ≡ l) × (tokens p ++ raised (breaks p) (lengt
 pub no-break : (top_level (ascii "a") ≡ true)
     × Apart (ascii "a") (ascii "a") (Some (Ok (MapKey 1 (part 0 2))) ∷ []) (Some (Ok (MapKey 1 (part 0 1))) ∷ Some (Ok (MapKey 1 (part 1 2))) ∷ [])
 unfolding top_level rules raise raise_token
-no-break = (refl, (refl, refl, λ e. let z : ◌≡◌ {A = ℕ} 0 1 = cc in omega arith))
+no-break = (refl, (refl, refl, λ e. cc))
 
 -- ` a` LF, the P of the next three
 abbrev pub section : List ℕ
@@ -40,7 +39,7 @@ pub comment : Closed section
     (Some (Ok (Indent 1)) ∷ Some (Ok (MapKey 1 (part 1 2))) ∷ Some (Ok (Newline 1)) ∷ Some (Ok (Comment 2 (part 4 4))) ∷ Some (Ok (Outdent 2 0)) ∷ [])
     (Some (Ok (Indent 1)) ∷ Some (Ok (MapKey 1 (part 1 2))) ∷ Some (Ok (Newline 1)) ∷ Some (Ok (Outdent 2 0)) ∷ Some (Ok (Comment 2 (part 4 4))) ∷ [])
 unfolding rules raise raise_token
-comment = (refl, (refl, refl, λ e. let z : ◌≡◌ {A = ℕ} 0 1 = cc in omega arith))
+comment = (refl, (refl, refl, λ e. cc))
 
 -- S begins with a blank: ` a` goes on in the open section
 pub blank : Closed section
@@ -55,7 +54,7 @@ pub blank : Closed section
     ∷ Some (Ok (Outdent 2 0))
     ∷ [])
 unfolding rules raise raise_token
-blank = (refl, (refl, refl, λ e. let z : ◌≡◌ {A = ℕ} 0 1 = cc in omega arith))
+blank = (refl, (refl, refl, λ e. cc))
 
 -- S begins with LF: an empty line closes no section
 pub line-feed : Closed section
@@ -63,12 +62,12 @@ pub line-feed : Closed section
     (Some (Ok (Indent 1)) ∷ Some (Ok (MapKey 1 (part 1 2))) ∷ Some (Ok (Newline 1)) ∷ Some (Ok (Newline 2)) ∷ Some (Ok (Outdent 3 0)) ∷ [])
     (Some (Ok (Indent 1)) ∷ Some (Ok (MapKey 1 (part 1 2))) ∷ Some (Ok (Newline 1)) ∷ Some (Ok (Outdent 2 0)) ∷ Some (Ok (Newline 2)) ∷ [])
 unfolding rules raise raise_token
-line-feed = (refl, (refl, refl, λ e. let z : ◌≡◌ {A = ℕ} 0 1 = cc in omega arith))
+line-feed = (refl, (refl, refl, λ e. cc))
 
 -- S begins with LF: CR then LF is one break
 pub cr-lf : Closed (ascii "\r") × Apart (ascii "\r") (ascii "\n") (Some (Ok (Newline 1)) ∷ []) (Some (Ok (Newline 1)) ∷ Some (Ok (Newline 2)) ∷ [])
 unfolding rules raise raise_token
-cr-lf = (refl, (refl, refl, λ e. let z : ◌≡◌ {A = ℕ} 0 1 = cc in omega arith))
+cr-lf = (refl, (refl, refl, λ e. cc))
 
 -- For the parser S's list has to begin with a key or an item: `a` LF then the byte FF. P's own list ends with a NoValue, and
 -- that of P then S has the refusal in its place.
@@ -76,4 +75,4 @@ pub no-entry : (parse (ascii "a\n") ≡ Some (Ok (MapKey 1 (part 0 1))) ∷ Some
     × (parse (ascii "a\n" ++ 0xFF ∷ []) ≡ Some (Ok (MapKey 1 (part 0 1))) ∷ Some (Ok (Newline 1)) ∷ Some (Err (error InvalidUtf8 2)) ∷ [])
     × ((l : List Said) → parse (ascii "a\n" ++ 0xFF ∷ []) ≡ parse (ascii "a\n") ++ l → ⊥)
 unfolding parse_rules
-no-entry = (refl, refl, λ l e. let z : ◌≡◌ {A = ℕ} 0 1 = cc in omega arith)
+no-entry = (refl, refl, λ l e. cc)

@@ -2,11 +2,10 @@
 -- value mark is clear where the indentation mark is set; every open indentation has a byte; and at P's end the indentation mark
 -- is set and nothing is held.
 use Rattle.std.specs.Prelude.{None, Option, Some}
-use Prim.Native.Nat.{ℕ, suc, ◌+◌, ◌-◌, ◌≤◌, ◌<◌}
-use mathlib.Core.Path.{◌≡◌, refl, sym, ap, ◌∙◌}
+use Prim.Native.Nat.{ℕ, ◌+◌, ◌-◌, ◌≤◌, ◌<◌}
+use mathlib.Core.Path.{◌≡◌, refl, ap, ◌∙◌}
 use mathlib.Core.List.{List, [], ◌∷◌}
-use mathlib.Core.Bool.{Bool, true, false, false≢true}
-use native.Mathlib.Numerals.{one-add}
+use mathlib.Core.Bool.{Bool, true, false}
 use native.Mathlib.Omega.{arith}
 use lib.ListN.{length, take, drop, length-take, length-drop}
 use lib.Seq.{drop-drop}
@@ -21,9 +20,8 @@ use Rattle.tokenizer_rules.specs.declared.plan.Change.{Change}
 use Rattle.tokenizer_rules.specs.declared.plan.Change.TheVariants.{Keep, Open, Close, Hold}
 use Rattle.tokenizer_rules.specs.declared.plan.Plan.{Plan}
 use Rattle.tokenizer.specs.declared.state.State.{State}
-use Rattle.tokenizer_rules.proofs.PlanCases.{Entry, later, first}
 use Rattle.tokenizer.proofs.Bounds.{rest-size}
-use Rattle.tokenizer_claims.proofs.Weight.{deeper-pos}
+use Rattle.tokenizer_claims.proofs.Weight.{deeper-pos, line_first, entry-late}
 use Rattle.tokenizer_claims.proofs.Sound.{rest_of, indent_at, plan_of, StepCases, step-cases, step-bounded, Sound, fresh-sound, after-sound}
 use Rattle.joining_claims.specs.Tokens.{Closed}
 use Rattle.joining_claims.proofs.Inline.{
@@ -66,20 +64,11 @@ in-line indent rest c e n l s w = record {
 
 -- where the indentation mark is clear, nothing is asked of the value mark
 unset : {i v : Bool} → i ≡ false → i ≡ true → v ≡ false
-unset e f = absurd (false≢true (sym e ∙ f))
-
--- an entry clears the indentation mark
-entry-unset : {m n : Marks} {inner indent : List ℕ} → Entry m inner indent n → n.indent ≡ false
-entry-unset (later e) = e
-entry-unset (first e q) = refl
+unset e f = absurd cc
 
 hint-unset : (t : Option Part) (m : Marks) → m.indent ≡ false → (hint_marks t m).indent ≡ false
 hint-unset (Some p) m e = e
 hint-unset None m e = e
-
--- a line's first byte that is no break
-line_first : (b : ℕ) (r : List ℕ) → is_break b ≡ false → line_end (b ∷ r) ≡ suc (line_end r)
-line_first b r e = rw (e, one-add)
 
 module _ (p : List ℕ) (x : State) (closed : Closed (rest_of p x)) (still : Still x.marks) (idle : rest_of p x ≡ [] → x.marks.indent ≡ true) where
   stays : StepCases p x (Stays (bytes_of p (indent_at p x)) (rest_of p x))
@@ -115,15 +104,15 @@ module _ (p : List ℕ) (x : State) (closed : Closed (rest_of p x)) (still : Sti
               opens = λ c i d u n. short _ e refl (omega arith) (unset refl) (deeper-pos _ _ d);
               full = λ c i d u n. short _ e refl (omega arith) (unset refl) tt;
               outdent = λ c i d. short _ e refl (omega arith) (λ z. still i) tt;
-              item = λ c n v t. short _ e refl (omega (arith, line_first b r c.no-break)) (unset (entry-unset n)) tt;
-              key = λ c n v t. short _ e refl (omega (arith, (and_then (text-inline 61) eq-inline).within (b ∷ r))) (unset (entry-unset n)) tt;
-              quotes = λ c n v h t. short _ e refl (omega arith) (unset (entry-unset n)) tt;
+              item = λ c n v t. short _ e refl (omega (arith, line_first b r c.no-break)) (unset (entry-late n)) tt;
+              key = λ c n v t. short _ e refl (omega (arith, (and_then (text-inline 61) eq-inline).within (b ∷ r))) (unset (entry-late n)) tt;
+              quotes = λ c n v h t. short _ e refl (omega arith) (unset (entry-late n)) tt;
               hint = λ c n v h t.
                   let w = drop 3 (b ∷ r) in
                   let three : 3 ≤ line_end (b ∷ r) = starts-line (34 ∷ 34 ∷ 34 ∷ []) (b ∷ r) refl h in
                   short _ e refl (omega (arith, line-drop 3 (b ∷ r) three, (plain-inline 59).within w))
-                  (unset (hint-unset (checked_of Blanks (take (plain_end 59 w) w)) _ (entry-unset n))) tt;
-              plain = λ c n v h. short _ e refl (omega (arith, (text-inline 59).within (b ∷ r))) (unset (entry-unset n)) tt;
+                  (unset (hint-unset (checked_of Blanks (take (plain_end 59 w) w)) _ (entry-late n))) tt;
+              plain = λ c n v h. short _ e refl (omega (arith, (text-inline 59).within (b ∷ r))) (unset (entry-late n)) tt;
             };
       }
 

@@ -3,9 +3,9 @@
 use Rattle.std.specs.Prelude.{Some, None, Ok, Err}
 use Rattle.tokenizer.specs.Token.{Answer as Came, Answer}
 use mathlib.Core.Path.{◌≡◌, refl, sym, ap, ◌∙◌}
-use mathlib.Core.List.{List, [], ◌∷◌, ◌++◌, append_assoc}
+use mathlib.Core.List.{List, [], ◌∷◌, ◌++◌, append_assoc, append-nil}
 use mathlib.Core.Bool.{true, false, cond, not, ◌||◌}
-use Rattle.text.proofs.Cases.{by_bool, clash}
+use Rattle.text.proofs.Cases.{by_bool}
 use Rattle.parser.specs.Lists.{Stand, Fed, stand_after, fed_once, ruled, fed_twice, fed_by, feed, parsed, refused_in}
 use Rattle.parser_rules.specs.declared.ruling.Kept.{Kept}
 use Rattle.parser_rules.specs.declared.ruling.Kept.TheVariants as kept
@@ -32,20 +32,10 @@ parsed-append s (c ∷ l) m =
 
 -- a list, and then the end
 pub parsed-end : (s : Stand) (l : List Came) → parsed s l ≡ (fed s l).says ++ cond (fed s l).goes_on (feed (fed s l).next None).says []
-unfolding fed parsed
-parsed-end s [] = refl
-parsed-end s (c ∷ l) =
-    by_bool (feed s c).goes_on
-    (λ e. rw e (rw (parsed-end (feed s c).next l) (sym (append_assoc (feed s c).says (fed (feed s c).next l).says _))))
-    (λ e. rw e)
+unfolding parsed
+parsed-end s l = ap (parsed s) (sym (append-nil l)) ∙ parsed-append s l []
 
 -- Refusals
-
-refused-cons : (a : Answer) (l : List Answer) → refused_in (a ∷ []) ≡ false → refused_in (a ∷ l) ≡ refused_in l
-unfolding refused_in
-refused-cons None l e = refl
-refused-cons (Some (Ok t)) l e = refl
-refused-cons (Some (Err x)) l e = absurd (clash e)
 
 pub refused-append : (l m : List Answer) → refused_in (l ++ m) ≡ refused_in l || refused_in m
 unfolding refused_in
@@ -54,14 +44,21 @@ refused-append (None ∷ l) m = refused-append l m
 refused-append (Some (Ok t) ∷ l) m = refused-append l m
 refused-append (Some (Err e) ∷ l) m = refl
 
+refused-cons : (a : Answer) (l : List Answer) → refused_in (a ∷ []) ≡ false → refused_in (a ∷ l) ≡ refused_in l
+refused-cons a l e = refused-append (a ∷ []) l ∙ rw e
+
 once-stops : (s : Stand) (r : Ruling) → Turns s.sections r → refused_in (fed_once s r).says ≡ not (fed_once s r).goes_on
 unfolding refused_in
 once-stops s (Says v) t = rw t.0 (by_bool v.refused (λ e. rw e) (λ e. rw e))
 once-stops s End t = refl
 once-stops s Unfit t = refl
 
+-- what was kept comes again, after the answer of v
+abbrev pub again : Stand → Verdict → Came → Fed
+again s v c = fed_once (stand_after s v) (ruled (stand_after s v) c)
+
 again-stops : (s : Stand) (v : Verdict) (c : Came) → refused_in (v.answer ∷ []) ≡ v.refused → v.refused ≡ false
-    → refused_in (v.answer ∷ (fed_once (stand_after s v) (ruled (stand_after s v) c)).says) ≡ not (fed_once (stand_after s v) (ruled (stand_after s v) c)).goes_on
+    → refused_in (v.answer ∷ (again s v c).says) ≡ not (again s v c).goes_on
 again-stops s v c e f =
     refused-cons v.answer _ (e ∙ f)
     ∙ once-stops (stand_after s v) (ruled (stand_after s v) c) (ruling-turns (stand_after s v).sections v.awaited c)

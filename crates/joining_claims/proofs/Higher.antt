@@ -5,8 +5,7 @@ use Rattle.std.specs.Prelude.{Some, None, Ok, Err, Option}
 use Rattle.tokenizer.specs.Token.{Answer}
 use Prim.Native.Nat.{ℕ, zero, suc, ◌+◌, ◌-◌, ◌≤◌}
 use mathlib.Core.Path.{◌≡◌, refl, ap, ◌∙◌}
-use mathlib.Core.List.{List, ◌∷◌, ◌++◌}
-use mathlib.Core.Bool.{false}
+use mathlib.Core.List.{List, ◌++◌}
 use native.Mathlib.Nat.{add_assoc}
 use native.Mathlib.Omega.{arith}
 use lib.ListN.{length, get_or}
@@ -36,6 +35,7 @@ use Rattle.tokenizer_rules.specs.declared.plan.Says.TheVariants.{
 use Rattle.tokenizer.specs.declared.state.State.{State}
 use Rattle.tokenizer.proofs.Bounds.{plan-bounded}
 use Rattle.tokenizer_claims.proofs.Sound.{rest_of, indent_at, Sound, step-sound}
+use Rattle.tokenizer_claims.proofs.Readings.{more}
 use Rattle.tokenizer_claims.proofs.Claimed.{sound-kept}
 use Rattle.joining_claims.specs.Raising.{raise_token, raise, raised}
 use Rattle.joining_claims.proofs.Sections.{Pairs, Opening, room_after, pairs-after}
@@ -166,11 +166,6 @@ unfolding raise is_end
 end-raised l n None = refl
 end-raised l n (Some (Ok t)) = refl
 end-raised l n (Some (Err e)) = refl
-
--- one more answer in front
-pub more : (d : List ℕ) (y : State) {a : Answer} {as₁ : List Answer} → (step_of d y).answer ≡ a → is_end a ≡ false
-    → (v : State) × Reads d (step_of d y).state as₁ v → (v : State) × Reads d y (a ∷ as₁) v
-more d y e f r = (r.0, says (λ i. record { answer = e i; state = (step_of d y).state }) f r.1)
 
 module _ (p s : List ℕ) (h : length (p ++ s) ≤ 16777216) (k : length s ≤ 16777216) where
   -- from a step that is higher

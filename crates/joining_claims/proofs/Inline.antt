@@ -4,7 +4,7 @@
 use Prim.Native.Nat.{ℕ, zero, suc, ◌+◌, ◌≤◌, ◌<◌}
 use mathlib.Core.Path.{◌≡◌, refl, ap}
 use mathlib.Core.List.{List, [], ◌∷◌, ◌++◌}
-use mathlib.Core.Bool.{Bool, true, false, not, ◌&&◌, ◌||◌, false≢true, true≢false}
+use mathlib.Core.Bool.{Bool, true, false, not, ◌&&◌}
 use native.Mathlib.Omega.{arith}
 use lib.Dec.{eqb}
 use lib.ListN.{length, take, drop}
@@ -15,8 +15,9 @@ use Rattle.std.specs.List.{prefix_len}
 use Rattle.text.specs.Trimming.{dropped}
 use Rattle.text.specs.declared.trimming.Dropped.TheVariants.{Blanks}
 use Rattle.text.proofs.Cases.{by_bool, on-cond, and_left, and_right}
-use Rattle.std.proofs.lemmas.List.Sums.{prefix_len-le-length}
+use Rattle.std.proofs.lemmas.Bool.{or_parts}
 use Rattle.tokenizer_scans.specs.Scans.{blanks, stops, plain_end, closing, quotes_end, text_end, eq_size, breaks_after, breaks, ends_in_break}
+use Rattle.tokenizer_rules.proofs.Plans.{line_le}
 use Rattle.joining_claims.specs.Tokens.{Closed}
 
 -- Texts that end in a break
@@ -27,7 +28,7 @@ Ended r = ends_in_break false r ≡ true
 
 pub ended-closed : (r : List ℕ) → Ended r → Closed r
 unfolding ends_in_break
-ended-closed [] h = absurd (false≢true h)
+ended-closed [] h = absurd cc
 ended-closed (b ∷ r) h = h
 
 pub closed-ended : (r : List ℕ) → Closed r → (r ≡ [] → ⊥) → Ended r
@@ -48,7 +49,7 @@ closed-drop before (suc n) (b ∷ r) h = closed-drop (is_break b) n r h
 pub to-break : (G : List ℕ → Type 0) → ((b : ℕ) (r : List ℕ) → is_break b ≡ true → G (b ∷ r))
     → ((b : ℕ) (r : List ℕ) → is_break b ≡ false → G r → G (b ∷ r)) → (r : List ℕ) → Ended r → G r
 unfolding ends_in_break
-to-break G f g [] h = absurd (false≢true h)
+to-break G f g [] h = absurd cc
 to-break G f g (b ∷ r) h = by_bool (is_break b) (f b r) (λ e. g b r e (to-break G f g r (rw e at h)))
 
 -- over n bytes of it
@@ -61,9 +62,6 @@ over-bytes G f g (suc n) (b ∷ r) l =
     (λ e. let k = rw e at l in absurd (omega arith))
     (λ e. let k = rw e at l in g n b r e (over-bytes G f g n r (omega arith)))
 
-pub line-le : (r : List ℕ) → line_end r ≤ length r
-line-le r = prefix_len-le-length not_break r
-
 pub line-lt : (r : List ℕ) → Ended r → line_end r < length r
 line-lt = to-break (λ r. line_end r < length r) (λ b r e. rw e (omega arith)) (λ b r e i. rw e (omega arith))
 
@@ -74,19 +72,11 @@ pub ended-drop : (n : ℕ) (r : List ℕ) → n ≤ line_end r → Ended r → E
 unfolding ends_in_break
 ended-drop = over-bytes (λ n r. Ended r → Ended (drop n r)) (λ r h. h) (λ n b r e i h. i (rw e at h))
 
-pub or_left : (a b : Bool) → (a || b) ≡ false → a ≡ false
-or_left true b e = e
-or_left false b e = refl
-
-pub or_right : (a b : Bool) → (a || b) ≡ false → b ≡ false
-or_right true b e = absurd (true≢false e)
-or_right false b e = e
-
 pub breaks-drop : (n : ℕ) (r : List ℕ) → n ≤ line_end r → breaks (drop n r) ≡ breaks r
 unfolding breaks_after is_break
 breaks-drop =
     over-bytes (λ n r. breaks (drop n r) ≡ breaks r) (λ r. refl)
-    (λ n b r e i. rw (or_left (eqb b 13) (eqb b 10) e, or_right (eqb b 13) (eqb b 10) e) i)
+    (λ n b r e i. let k = or_parts (eqb b 13) (eqb b 10) e in rw (k.0, k.1) i)
 
 -- Scans that stay in the line
 
@@ -95,10 +85,10 @@ pub record Inline (f : List ℕ → ℕ) : Type 0 where
   pub same : (t r : List ℕ) → Ended r → f (r ++ t) ≡ f r
 
 pub same-take : {f : List ℕ → ℕ} → Inline f → (t r : List ℕ) → Ended r → take (f (r ++ t)) (r ++ t) ≡ take (f r) r
-same-take {f} i t r h = rw (i.same t r h) (take-append-le (f r) r t (omega (arith, i.within r, line-le r)))
+same-take {f} i t r h = rw (i.same t r h) (take-append-le (f r) r t (omega (arith, i.within r, line_le r)))
 
 pub same_drop : {f : List ℕ → ℕ} → Inline f → (t r : List ℕ) → Ended r → drop (f (r ++ t)) (r ++ t) ≡ drop (f r) r ++ t
-same_drop {f} i t r h = rw (i.same t r h) (drop-append-le (f r) r t (omega (arith, i.within r, line-le r)))
+same_drop {f} i t r h = rw (i.same t r h) (drop-append-le (f r) r t (omega (arith, i.within r, line_le r)))
 
 -- one after the other
 pub and_then : {f g : List ℕ → ℕ} → Inline f → Inline g → Inline (λ r. f r + g (drop (f r) r))
@@ -167,7 +157,7 @@ quotes-inline = record { within = below; same = alike }
         (λ e. rw e (omega arith))
 
     alike : (t r : List ℕ) → Ended r → quotes_end (r ++ t) ≡ quotes_end r
-    alike t [] h = absurd (false≢true h)
+    alike t [] h = absurd cc
     alike t (b ∷ r) h =
         by_bool (eqb b 34)
         (λ e. rw e (ap suc ((closing-inline false).same t r (rw (eqb-true b 34 e) at h))))
@@ -193,7 +183,7 @@ eq-inline = record {
 pub starts-line : (q r : List ℕ) → line_end q ≡ length q → starts_with q r ≡ true → length q ≤ line_end r
 unfolding starts_with
 starts-line [] r f e = omega arith
-starts-line (a ∷ q) [] f e = absurd (false≢true e)
+starts-line (a ∷ q) [] f e = absurd cc
 starts-line (a ∷ q) (b ∷ r) f e =
     by_bool (is_break a)
     (λ t. let g = rw t at f in absurd (omega arith))
@@ -205,7 +195,7 @@ starts-line (a ∷ q) (b ∷ r) f e =
 pub starts-same : (q t r : List ℕ) → line_end q ≡ length q → Ended r → starts_with q (r ++ t) ≡ starts_with q r
 unfolding starts_with ends_in_break
 starts-same [] t r f h = refl
-starts-same (a ∷ q) t [] f h = absurd (false≢true h)
+starts-same (a ∷ q) t [] f h = absurd cc
 starts-same (a ∷ q) t (b ∷ r) f h =
     by_bool (eqb a b)
     (λ e.

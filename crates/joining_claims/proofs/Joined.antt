@@ -21,7 +21,7 @@ use Rattle.tokenizer_rules.proofs.PlanCases.{plan_close}
 use Rattle.tokenizer.proofs.Bounds.{rest-size}
 use Rattle.tokenizer_claims.proofs.Sound.{rest_of, indent_at, plan_of, answer_at, step-cases, Sound, fresh-sound, step-sound}
 use Rattle.tokenizer_claims.proofs.Answers.{Vouched, plan-vouches}
-use Rattle.tokenizer_claims.proofs.Readings.{reads-one}
+use Rattle.tokenizer_claims.proofs.Readings.{more, reads-one}
 use Rattle.tokenizer_claims.proofs.Claimed.{sound-kept}
 use Rattle.tokenizer_claims.proofs.Claimed as claimed
 use Rattle.joining_claims.specs.Raising.{raised}
@@ -30,13 +30,13 @@ use Rattle.joining_claims.proofs.Inline.{Ended, closed-ended, closed-drop, line-
 use Rattle.joining_claims.proofs.Values.{Top, top}
 use Rattle.joining_claims.proofs.Prefix.{step_same}
 use Rattle.joining_claims.proofs.Course.{Course, fresh-course, course-after}
-use Rattle.joining_claims.proofs.Higher.{HigherStep, more, reads-raised}
+use Rattle.joining_claims.proofs.Higher.{HigherStep, reads-raised}
 use Rattle.joining_claims.proofs.HandOver.{top-blanks, Waits, after_closing, first_step, closing-step}
 use Rattle.tokenizer.specs.declared.state.Step.{Step}
 
 by-nil : {G : Type 0} (r : List ℕ) → (r ≡ [] → G) → ((r ≡ [] → ⊥) → G) → G
 by-nil [] f g = f refl
-by-nil (b ∷ r) f g = g (λ e. let z : ◌≡◌ {A = ℕ} 0 1 = cc in omega arith)
+by-nil (b ∷ r) f g = g (λ e. cc)
 
 -- before P's end no step says End: more than blanks is left
 speaks : (p : List ℕ) (x : State) → Sound p x → Ended (rest_of p x) → is_end (step_rule p x).answer ≡ false
@@ -142,10 +142,10 @@ module _ {p : List ℕ} {s : ℕ} {t : List ℕ} where
   said-on n (over e h) = absurd (false≢true (sym n ∙ ap is_end e))
   said-on n (goes m e a) = (e, a)
 
-left_le : (p s : List ℕ) → length (p ++ s) ≤ 16777216 → length p ≤ 16777216
+pub left_le : (p s : List ℕ) → length (p ++ s) ≤ 16777216 → length p ≤ 16777216
 left_le p s h = omega (arith, length-append p s)
 
-right_le : (p s : List ℕ) → length (p ++ s) ≤ 16777216 → length s ≤ 16777216
+pub right_le : (p s : List ℕ) → length (p ++ s) ≤ 16777216 → length s ≤ 16777216
 right_le p s h = omega (arith, length-append p s)
 
 module _ (p : List ℕ) (closed : Closed p) (s : ℕ) (t : List ℕ) (o : Top s) (h : length (p ++ s ∷ t) ≤ 16777216) {us : List Answer} {w : State}

@@ -7,7 +7,6 @@ pub mod Higher
 pub mod HandOver
 pub mod Joined
 pub mod Counterexamples
-pub mod Places
 pub mod Unescaping
 pub mod Feeding
 pub mod RaisedParse
@@ -15,5 +14,6 @@ pub mod Tops
 pub mod Ruled
 pub mod Behind
 pub mod AtTop
+pub mod Ending
 pub mod Demand
 pub mod OneSort

@@ -1,12 +1,12 @@
 -- Before P's end both readings take the same steps: the plan of a state, and so its step, is the same whether a top-level line
 -- follows P or not.
 use Rattle.std.specs.Prelude.{Option, Some, None}
-use Prim.Native.Nat.{ℕ, zero, suc, ◌-◌, ◌≤◌}
+use Prim.Native.Nat.{ℕ, zero, suc, ◌≤◌}
 use mathlib.Core.Path.{◌≡◌, refl}
 use mathlib.Core.List.{List, [], ◌∷◌, ◌++◌}
-use mathlib.Core.Bool.{false, false≢true}
+use mathlib.Core.Bool.{false}
 use native.Mathlib.Omega.{arith}
-use lib.ListN.{length, drop, get_or, length-drop}
+use lib.ListN.{length, drop, get_or}
 use lib.Seq.{take-append-le, drop-append-le}
 use Rattle.text.specs.Bytes.{is_blank, is_break, line_end}
 use Rattle.text.specs.Trimming.{dropped}
@@ -32,14 +32,12 @@ use Rattle.tokenizer_rules.specs.Plan.{
 use Rattle.tokenizer.specs.Step.{bytes_of, no_part, indent_of, size_of, inner_of, plan_with, step_with, step_rule}
 use Rattle.tokenizer_rules.specs.declared.plan.Marks.{Marks}
 use Rattle.tokenizer.specs.declared.state.State.{State}
-use Rattle.tokenizer_rules.proofs.Plans.{lines_le}
-use Rattle.tokenizer_claims.specs.Claims.{Within}
-use Rattle.tokenizer_claims.proofs.Texts.{Indentation, no-indentation}
+use Rattle.tokenizer_rules.proofs.Plans.{lines_le, line_le}
+use Rattle.tokenizer_claims.proofs.Texts.{bytes-append, Indentation, no-indentation}
 use Rattle.tokenizer_claims.proofs.Sound.{rest_of, indent_at, Sound, indent-sound}
 use Rattle.joining_claims.proofs.Inline.{
   Ended,
   ended-closed,
-  line-le,
   ended-drop,
   same-take,
   same_drop,
@@ -96,7 +94,7 @@ module _ (s : ℕ) (t : List ℕ) (o : Top s) where
         (by_bool (begins_hint w)
         (λ e.
         let l : 3 ≤ line_end w = starts-line (34 ∷ 34 ∷ 34 ∷ []) w refl e in
-        rw (e, drop-append-le 3 w (s ∷ t) (omega (arith, line-le w)), hint-same (drop 3 w) (ended-drop 3 w l h)))
+        rw (e, drop-append-le 3 w (s ∷ t) (omega (arith, line_le w)), hint-same (drop 3 w) (ended-drop 3 w l h)))
         (λ e. rw (e, plain-same w h)))
 
   entry-same : (m : Marks) (k b : ℕ) (w : List ℕ) → Ended w → plan_entry m k b (w ++ s ∷ t) ≡ plan_entry m k b w
@@ -125,7 +123,7 @@ module _ (s : ℕ) (t : List ℕ) (o : Top s) where
       → (rest : List ℕ) → Ended rest → (k : ℕ) (w : List ℕ) → Ended w
       → plan_on m depth inner indent (rest ++ s ∷ t) k (w ++ s ∷ t) ≡ plan_on m depth inner indent rest k w
   unfolding plan_on ends_in_break
-  on_same m depth inner indent q rest g k [] h = absurd (false≢true h)
+  on_same m depth inner indent q rest g k [] h = absurd cc
   on_same m depth inner indent q rest g k (b ∷ r) h =
       by_bool (is_break b)
       (λ e. rw (e, newline-same m k (b ∷ r) h))
@@ -138,12 +136,6 @@ module _ (s : ℕ) (t : List ℕ) (o : Top s) where
       ))
 
 -- The step
-
-bytes_same : (p t : List ℕ) (i : Part) → Within p i → bytes_of (p ++ t) i ≡ bytes_of p i
-bytes_same p t i w =
-    let l : i.start ≤ length p = omega (arith, w.starts, w.ends) in
-    let n : i.end - i.start ≤ length (drop i.start p) = omega (arith, w.ends, length-drop i.start p) in
-    rw (drop-append-le i.start p t l, take-append-le (i.end - i.start) (drop i.start p) t n)
 
 inner-sound : (d : List ℕ) (is : List Part) → ((j : ℕ) → Indentation d (get_or is j no_part)) → (n : ℕ) → Indentation d (inner_of is n)
 inner-sound d is x zero = no-indentation d
@@ -168,10 +160,10 @@ module _ (s : ℕ) (t : List ℕ) (o : Top s) (p : List ℕ) (x : State) (f : So
       let i = indent-sound p x f in
       let r = rest_of p x in
       rw (
-        bytes_same p (s ∷ t) (inner_of x.indents x.depth) (inner-sound p x.indents f.indents x.depth).within,
-        bytes_same p (s ∷ t) (indent_at p x) i.within,
+        bytes-append p (s ∷ t) (inner_of x.indents x.depth) (inner-sound p x.indents f.indents x.depth).within,
+        bytes-append p (s ∷ t) (indent_at p x) i.within,
         drop-append-le x.place p (s ∷ t) f.place,
-        drop-append-le k r (s ∷ t) (omega (arith, line-le r)),
+        drop-append-le k r (s ∷ t) (omega (arith, line_le r)),
       )
       (on_same s t o x.marks x.depth _ (bytes_of p (indent_at p x)) i.only_blanks r e k (drop k r) (ended-drop k r l e))
 

@@ -9,6 +9,7 @@ use native.Mathlib.Omega.{arith}
 use native.Mathlib.Nat.{add_assoc, zero-add}
 use lib.Dec.{leb}
 use lib.ListN.{length, drop, length-append, length-take}
+use lib.Seq.{drop-append_seam}
 use Rattle.text.specs.declared.bytes.Part.{Part}
 use Rattle.text.proofs.Cases.{by_bool}
 use Rattle.tokenizer.specs.Lists.{tokens}
@@ -26,23 +27,26 @@ use Rattle.tokenizer.specs.declared.token.Token.TheVariants.{
   MultilineValue,
   NoValue,
 }
-use Rattle.tokenizer_claims.specs.Claims.{Text, TokenFits, Fits, All}
+use Rattle.tokenizer_claims.specs.Claims.{Within, Text, TokenFits, Fits, All}
+use Rattle.tokenizer_claims.proofs.Texts.{bytes-append, text-append, text-drop}
 use Rattle.tokenizer_claims.proofs.Claimed.{fit as reading-fit}
 use Rattle.text.specs.Bytes.{shifted_by}
-use Rattle.unescape_pieces.specs.Meaning.{Meaning, part, bytes, refused, meaning}
+use Rattle.unescape_pieces.specs.Meaning.{Meaning, part, bytes, refused, meaning, refusal_of, shown_from}
+use Rattle.unescape_pieces.specs.declared.fault.Fault.{Fault}
 use Rattle.unescape_pieces.specs.declared.fault.Fault.TheVariants.{InvalidEscape, EscapeAtEnd, ExtraCharacters, UnclosedQuotes}
 use Rattle.unescape_source.specs.Source.{source_at, source_of, meaning_in}
 use Rattle.unescape_pieces.specs.declared.start.Style.{Style}
-use Rattle.unescape_pieces.specs.declared.start.Style.TheVariants.{AsIs, Entry, Block}
+use Rattle.unescape_pieces.specs.declared.start.Style.TheVariants.{AsIs, Entry}
 use Rattle.unescape_pieces.proofs.Proper.{Proper, meaning-proper}
 use Rattle.unescape.specs.Unescape.{Unescaped, delivered, unescape_of}
 use Rattle.unescape.specs.declared.answer.Answer.TheVariants.{Plain}
 use Rattle.unescape_claims.proofs.Readable.{none-text, texts-fit, texts-read}
 use Rattle.joining_claims.specs.Raising.{raise_token}
-use Rattle.joining_claims.specs.Alike.{Same, Alike}
+use Rattle.joining_claims.specs.Alike.{raise_shown, Same, Alike}
 use Rattle.joining_claims.specs.Joined.{EachToken}
 use Rattle.joining_claims.specs.Never13.{Not13, Never13}
-use Rattle.joining_claims.proofs.Places.{part-above, part-below}
+use Rattle.joining_claims.proofs.Higher.{bytes-raised}
+use Rattle.joining_claims.proofs.Joined.{left_le, right_le}
 
 -- A token of a reading may be read, so it is delivered
 
@@ -62,110 +66,90 @@ buffer-same (part x y) a b k l o = refl
 buffer-same (bytes w) a b k l o = by_bool (leb (length w) (length o)) (λ e. rw e) (λ e. rw e)
 buffer-same (refused f) a b k l o = refl
 
-module _ (p s : List ℕ) where
-  -- at the same place of P then S and of P
-  answer-above : (m : Meaning) (k l n : ℕ) (o : List ℕ) → Proper n m → k + n ≤ length p
-      → Same 0 0 (p ++ s) (delivered m k l o).answer p (delivered m k l o).answer
+-- the part that a refusal shows, at a place that is n bytes higher
+shown-raised : (n k : ℕ) (f : Fault) → shown_from (n + k) f ≡ raise_shown n (refusal_of f) (shown_from k f)
+shown-raised n k (InvalidEscape q) = rw (add_assoc, add_assoc)
+shown-raised n k EscapeAtEnd = refl
+shown-raised n k ExtraCharacters = refl
+shown-raised n k UnclosedQuotes = refl
+
+-- d has the parts of e, n bytes higher
+module _ (d e : List ℕ) (j n : ℕ) (same : (q : Part) → Within e q → bytes_of d (shifted_by n q) ≡ bytes_of e q) where
+  -- of a text of c bytes at the place k of e
+  answer-raised : (m : Meaning) (k l c : ℕ) (o : List ℕ) → Proper c m → k + c ≤ length e
+      → Same j n d (delivered m (n + k) (j + l) o).answer e (delivered m k l o).answer
   unfolding delivered Same
-  answer-above (part a e) k l n o h f = part-above p s (record { start = k + a; end = k + e }) (omega arith) (omega arith)
-  answer-above (bytes w) k l n o h f =
-      by_bool (leb (length w) (length o)) (λ e. rw e refl) (λ e. rw e (refl, omega arith, refl))
-  answer-above (refused (InvalidEscape q)) k l n o h f = (refl, omega arith, rw (zero-add, zero-add))
-  answer-above (refused EscapeAtEnd) k l n o h f = (refl, omega arith, refl)
-  answer-above (refused ExtraCharacters) k l n o h f = (refl, omega arith, refl)
-  answer-above (refused UnclosedQuotes) k l n o h f = (refl, omega arith, refl)
+  answer-raised (part a b) k l c o h f =
+      rw (add_assoc, add_assoc)
+      (same (record { start = k + a; end = k + b }) (record { starts = omega arith; ends = omega arith }))
+  answer-raised (bytes w) k l c o h f =
+      by_bool (leb (length w) (length o)) (λ t. rw t refl) (λ t. rw t (refl, refl, refl))
+  answer-raised (refused x) k l c o h f = (refl, refl, shown-raised n k x)
 
-  -- at a place of S and, raised, of P then S
-  answer-below : (m : Meaning) (k l j n : ℕ) (o : List ℕ) → Proper n m
-      → Same j (length p) (p ++ s) (delivered m (length p + k) (j + l) o).answer s (delivered m k l o).answer
-  unfolding delivered Same
-  answer-below (part a e) k l j n o h = rw (add_assoc, add_assoc) (part-below p s (record { start = k + a; end = k + e }))
-  answer-below (bytes w) k l j n o h =
-      by_bool (leb (length w) (length o)) (λ e. rw e refl) (λ e. rw e (refl, refl, refl))
-  answer-below (refused (InvalidEscape q)) k l j n o h = (refl, refl, rw (add_assoc, add_assoc))
-  answer-below (refused EscapeAtEnd) k l j n o h = (refl, refl, refl)
-  answer-below (refused ExtraCharacters) k l j n o h = (refl, refl, refl)
-  answer-below (refused UnclosedQuotes) k l j n o h = (refl, refl, refl)
+  -- a token t of d is the token u of e, raised by j lines and n bytes
+  record Lifted (t u : Token) : Type 0 where
+    line : line_of t ≡ j + line_of u
+    style : (source_of t).style ≡ (source_of u).style
+    text : (source_of t).text ≡ shifted_by n (source_of u).text
+    indents : bytes_of d (source_of t).indent ≡ bytes_of e (source_of u).indent
+    above : Text d (source_of t).text × Text d (source_of t).indent
+    below : Text e (source_of u).text × Text e (source_of u).indent
 
-  -- Tokens of P
-
-  text-above : (q : Part) → Text p q → Text (p ++ s) q
-  text-above q t = record {
-    within = record { starts = t.within.starts; ends = omega (arith, t.within.ends, length-append p s) };
-    valid = rw (part-above p s q t.within.starts t.within.ends) t.valid;
-  }
-
-  -- delivered there as in P alone
-  there-above : (t : Token) (o : List ℕ) → length (p ++ s) ≤ 16777216 → TokenFits p t → unescape_of (p ++ s) t o ≡ deliver p t o
+  lifted-alike : (t u : Token) → length d ≤ 16777216 → length e ≤ 16777216 → Lifted t u → Alike j n d t e u
   unfolding deliver
-  there-above t o l f =
+  lifted-alike t u g h f =
+      let q = (source_of u).text in
+      let w = f.below.0.within in
+      let m = meaning_in e (source_of u) in
+      let there : (o : List ℕ) → unescape_of d t o ≡ delivered m (n + q.start) (j + line_of u) o =
+      λ o. unescaped d t o g f.above ∙ rw (f.style, f.text, f.line, f.indents, same q w) in
+      let here : (o : List ℕ) → unescape_of e u o ≡ delivered m q.start (line_of u) o =
+      λ o. unescaped e u o h f.below in
+      let c : q.start + length (bytes_of e q) ≤ length e =
+      omega (arith, w.starts, w.ends, length-take (q.end - q.start) (drop q.start e)) in
+      let p = meaning-proper (source_of u).style (bytes_of e q) (bytes_of e (source_of u).indent) in
+      record {
+        answers = λ o. rw (there o, here o) (answer-raised m q.start (line_of u) _ o p c);
+        buffers = λ o. rw (there o, here o) (buffer-same m _ _ _ _ o);
+      }
+
+module _ (p s : List ℕ) (l : length (p ++ s) ≤ 16777216) where
+  -- a token of P is itself, raised by nothing
+  pub token-above : (t : Token) → TokenFits p t → Alike 0 0 (p ++ s) t p t
+  token-above t f =
       let g = texts-fit ⊥ p t f in
-      unescaped (p ++ s) t o l (text-above (source_of t).text g.0, text-above (source_of t).indent g.1)
-      ∙ rw (part-above p s (source_of t).text g.0.within.starts g.0.within.ends, part-above p s (source_of t).indent g.1.within.starts g.1.within.ends)
-
-  here-above : (t : Token) (o : List ℕ) → length (p ++ s) ≤ 16777216 → TokenFits p t → unescape_of p t o ≡ deliver p t o
-  here-above t o l f = unescaped p t o (omega (arith, length-append p s)) (texts-fit ⊥ p t f)
-
-  answers-above : (t : Token) (o : List ℕ) → TokenFits p t → Same 0 0 (p ++ s) (deliver p t o).answer p (deliver p t o).answer
-  unfolding deliver
-  answers-above t o f =
-      let q = (source_of t).text in
-      let g = (texts-fit ⊥ p t f).0.within in
-      answer-above (meaning_in p (source_of t)) q.start (line_of t) (length (bytes_of p q)) o
-      (meaning-proper (source_of t).style (bytes_of p q) (bytes_of p (source_of t).indent))
-      (omega (arith, g.starts, g.ends, length-take (q.end - q.start) (drop q.start p)))
-
-  pub token-above : (t : Token) → length (p ++ s) ≤ 16777216 → TokenFits p t → Alike 0 0 (p ++ s) t p t
-  token-above t l f = record {
-    answers = λ o. rw (there-above t o l f, here-above t o l f) (answers-above t o f);
-    buffers = λ o. rw (there-above t o l f, here-above t o l f);
-  }
+      lifted-alike (p ++ s) p 0 0 (λ q w. simp zero-add (bytes-append p s q w)) t t l (left_le p s l)
+      (record {
+        line = simp zero-add;
+        style = refl;
+        text = simp zero-add;
+        indents = bytes-append p s (source_of t).indent g.1.within;
+        above = (text-append p s (source_of t).text g.0, text-append p s (source_of t).indent g.1);
+        below = g;
+      })
 
   -- Tokens of S
 
   text-below : (q : Part) → Text s q → Text (p ++ s) (shifted_by (length p) q)
-  text-below q t = record {
-    within = record { starts = omega (arith, t.within.starts); ends = omega (arith, t.within.ends, length-append p s) };
-    valid = (rw (part-below p s q) t.valid);
-  }
+  text-below q t = text-drop (length p) (p ++ s) q (omega (arith, length-append p s)) (rw (drop-append_seam p s) t)
 
-  -- A token t of P then S that is u raised by j lines: u has the text q and the indentation i, t has q raised and k.
-  record Lifted (j : ℕ) (t u : Token) (r : Style) (q i k : Part) : Type 0 where
-    line : line_of t ≡ j + line_of u
-    lower : source_of u ≡ record { style = r; text = q; indent = i }
-    upper : source_of t ≡ record { style = r; text = shifted_by (length p) q; indent = k }
-    indents : bytes_of (p ++ s) k ≡ bytes_of s i
-    indented : Text (p ++ s) k × Text s i
-    texted : Text s q
-
-  module _ (j : ℕ) (t u : Token) (r : Style) (q i k : Part) (f : Lifted j t u r q i k) (l : length (p ++ s) ≤ 16777216) where
-    m : Meaning
-    m = meaning r (bytes_of s q) (bytes_of s i)
-
-    there-below : (o : List ℕ) → unescape_of (p ++ s) t o ≡ delivered m (length p + q.start) (j + line_of u) o
-    unfolding deliver m
-    there-below o =
-        unescaped (p ++ s) t o l (rw f.upper (text-below q f.texted, f.indented.0))
-        ∙ rw (f.upper, f.line, part-below p s q, f.indents)
-
-    here-below : (o : List ℕ) → unescape_of s u o ≡ delivered m q.start (line_of u) o
-    unfolding deliver m
-    here-below o = unescaped s u o (omega (arith, length-append p s)) (rw f.lower (f.texted, f.indented.1)) ∙ rw f.lower
-
-    lifted-alike : Alike j (length p) (p ++ s) t s u
-    unfolding m
-    lifted-alike = record {
-      answers = λ o. rw (there-below o, here-below o) (answer-below m q.start (line_of u) j (length (bytes_of s q)) o (meaning-proper r (bytes_of s q) (bytes_of s i)));
-      buffers = λ o. rw (there-below o, here-below o) (buffer-same m _ _ _ _ o);
-    }
+  texted-alike : (j : ℕ) (t u : Token) → Lifted (p ++ s) s j (length p) (λ q w. bytes-raised p s q) t u
+      → Alike j (length p) (p ++ s) t s u
+  texted-alike j t u = lifted-alike (p ++ s) s j (length p) (λ q w. bytes-raised p s q) t u l (right_le p s l)
 
   -- a text and no indentation
-  texted-alike : (j : ℕ) (t u : Token) (r : Style) (q : Part) → line_of t ≡ j + line_of u → source_of u ≡ source_at r q → source_of t ≡ source_at r (shifted_by (length p) q)
-      → Text s q → length (p ++ s) ≤ 16777216 → Alike j (length p) (p ++ s) t s u
-  texted-alike j t u r q n x y f l =
-      lifted-alike j t u r q no_part no_part
-      (record { line = n; lower = x; upper = y; indents = refl; indented = (none-text (p ++ s), none-text s); texted = f })
-      l
+  plain-alike : (j : ℕ) (t u : Token) (r : Style) (q : Part) → line_of t ≡ j + line_of u → source_of u ≡ source_at r q
+      → source_of t ≡ source_at r (shifted_by (length p) q) → Text s q → Alike j (length p) (p ++ s) t s u
+  plain-alike j t u r q n x y f =
+      texted-alike j t u
+      (record {
+        line = n;
+        style = rw (x, y);
+        text = rw (x, y);
+        indents = rw (x, y);
+        above = rw y (text-below q f, none-text (p ++ s));
+        below = rw x (f, none-text s);
+      })
 
   -- a token without a text keeps its empty part at 0
   none-delivered : (d : List ℕ) (t : Token) (o : List ℕ) → source_of t ≡ source_at AsIs no_part → length d ≤ 16777216
@@ -173,31 +157,37 @@ module _ (p s : List ℕ) where
   unfolding deliver meaning delivered
   none-delivered d t o x l = unescaped d t o l (rw x (none-text d, none-text d)) ∙ rw x
 
-  bare_alike : (j : ℕ) (t u : Token) → source_of t ≡ source_at AsIs no_part → source_of u ≡ source_at AsIs no_part → length (p ++ s) ≤ 16777216
+  bare_alike : (j : ℕ) (t u : Token) → source_of t ≡ source_at AsIs no_part → source_of u ≡ source_at AsIs no_part
       → Alike j (length p) (p ++ s) t s u
   unfolding Same
-  bare_alike j t u x y l =
-      let h : length s ≤ 16777216 = omega (arith, length-append p s) in
+  bare_alike j t u x y =
+      let h = right_le p s l in
       record {
         answers = λ o. rw (none-delivered (p ++ s) t o x l, none-delivered s u o y h);
         buffers = λ o. rw (none-delivered (p ++ s) t o x l, none-delivered s u o y h);
       }
 
-  pub token-below : (j : ℕ) (t : Token) → length (p ++ s) ≤ 16777216 → TokenFits s t → Alike j (length p) (p ++ s) (raise_token j (length p) t) s t
+  pub token-below : (j : ℕ) (t : Token) → TokenFits s t → Alike j (length p) (p ++ s) (raise_token j (length p) t) s t
   unfolding raise_token source_of line_of
-  token-below j (Newline m) l f = bare_alike j _ _ refl refl l
-  token-below j (Comment m q) l f = texted-alike j _ _ AsIs q refl refl refl f l
-  token-below j (Indent m) l f = bare_alike j _ _ refl refl l
-  token-below j (Outdent m o) l f = bare_alike j _ _ refl refl l
-  token-below j (ListItem m) l f = bare_alike j _ _ refl refl l
-  token-below j (MapKey m q) l f = texted-alike j _ _ Entry q refl refl refl f l
-  token-below j (Value m q) l f = texted-alike j _ _ Entry q refl refl refl f l
-  token-below j (MultilineHint m q) l f = texted-alike j _ _ AsIs q refl refl refl f l
-  token-below j (MultilineValue m i q) l f =
-      lifted-alike j _ _ Block q i (shifted_by (length p) i)
-      (record { line = refl; lower = refl; upper = refl; indents = part-below p s i; indented = (text-below i f.0, f.0); texted = f.1 })
-      l
-  token-below j (NoValue m) l f = absurd f
+  token-below j (Newline m) f = bare_alike j _ _ refl refl
+  token-below j (Comment m q) f = plain-alike j _ _ AsIs q refl refl refl f
+  token-below j (Indent m) f = bare_alike j _ _ refl refl
+  token-below j (Outdent m o) f = bare_alike j _ _ refl refl
+  token-below j (ListItem m) f = bare_alike j _ _ refl refl
+  token-below j (MapKey m q) f = plain-alike j _ _ Entry q refl refl refl f
+  token-below j (Value m q) f = plain-alike j _ _ Entry q refl refl refl f
+  token-below j (MultilineHint m q) f = plain-alike j _ _ AsIs q refl refl refl f
+  token-below j (MultilineValue m i q) f =
+      texted-alike j _ _
+      (record {
+        line = refl;
+        style = refl;
+        text = refl;
+        indents = bytes-raised p s i;
+        above = (text-below q f.1, text-below i f.0);
+        below = (f.1, f.0);
+      })
+  token-below j (NoValue m) f = absurd f
 
 -- every token of a reading fits
 pub each-token : (d : List ℕ) (F : Token → Type 0) → ((t : Token) → TokenFits d t → F t) → (l : List Came) → All (Fits d) l → EachToken F l

@@ -3,7 +3,7 @@
 use Prim.Native.Nat.{ℕ, ◌+◌}
 use mathlib.Core.Path.{◌≡◌, refl, sym, ap, ◌∙◌}
 use mathlib.Core.List.{List, [], ◌∷◌, ◌++◌}
-use mathlib.Core.Bool.{Bool, true, false, not, ◌||◌, false≢true, true≢false, and-false, or-true}
+use mathlib.Core.Bool.{Bool, true, false, not, ◌||◌, true≢false, and-false, or-true}
 use native.Mathlib.Nat.{zero-add, add-zero}
 use native.Mathlib.Omega.{arith}
 use lib.Dec.{eqb, eqb-zero-suc}
@@ -12,11 +12,12 @@ use lib.Seq.{take-append-le}
 use borrow.Author.Tests.{eqb-true, not-true, not-false}
 use Rattle.text.specs.Bytes.{is_blank, is_break, break_size, starts_with}
 use Rattle.text.specs.Trimming.{dropped}
+use Rattle.std.proofs.lemmas.Bool.{or_parts}
 use Rattle.text.proofs.Cases.{by_bool}
 use Rattle.tokenizer_scans.specs.Scans.{piece, is_void, belongs_to, multiline_end, breaks_after, breaks, ends_in_break, line_count, lines_of}
 use Rattle.tokenizer_scans.proofs.Pieces.{extent-le}
 use Rattle.joining_claims.specs.Tokens.{Closed, top_level}
-use Rattle.joining_claims.proofs.Inline.{Ended, to-break, or_left, or_right, by-break}
+use Rattle.joining_claims.proofs.Inline.{Ended, to-break, by-break}
 
 -- the first byte of a top-level line
 pub record Top (b : ℕ) : Type 0 where
@@ -27,21 +28,17 @@ pub record Top (b : ℕ) : Type 0 where
 pub top : (b : ℕ) (r : List ℕ) → top_level (b ∷ r) ≡ true → Top b
 unfolding top_level
 top b r e =
-    let f = not-true (is_blank b || (is_break b || eqb b 59)) e in
-    let g = or_right (is_blank b) (is_break b || eqb b 59) f in
-    record {
-      no-blank = or_left (is_blank b) (is_break b || eqb b 59) f;
-      no-break = or_left (is_break b) (eqb b 59) g;
-      no-comment = or_right (is_break b) (eqb b 59) g;
-    }
+    let f = or_parts (is_blank b) (is_break b || eqb b 59) (not-true (is_blank b || (is_break b || eqb b 59)) e) in
+    let g = or_parts (is_break b) (eqb b 59) f.1 in
+    record { no-blank = f.0; no-break = g.0; no-comment = g.1 }
 
 -- Appending
 
 module _ (s : ℕ) (t : List ℕ) (o : Top s) where
   pub break-same : (r : List ℕ) → Ended r → break_size (r ++ s ∷ t) ≡ break_size r
   unfolding break_size ends_in_break is_break
-  break-same [] h = absurd (false≢true h)
-  break-same (b ∷ []) h = rw (or_right (eqb s 13) (eqb s 10) o.no-break, and-false)
+  break-same [] h = absurd cc
+  break-same (b ∷ []) h = rw ((or_parts (eqb s 13) (eqb s 10) o.no-break).1, and-false)
   break-same (b ∷ c ∷ r) h = refl
 
   piece-same : (r : List ℕ) → Ended r → piece (r ++ s ∷ t) ≡ piece r
@@ -93,7 +90,7 @@ module _ (indent : List ℕ) where
   whole-lines before (b ∷ r) h =
       by_bool (not before || belongs_to indent (piece (b ∷ r)))
       (λ e. rw e (whole-lines (is_break b) r h))
-      (λ e. rw e (not-false before (or_left (not before) (belongs_to indent (piece (b ∷ r))) e)))
+      (λ e. rw e (not-false before (or_parts (not before) (belongs_to indent (piece (b ∷ r))) e).0))
 
   -- a lone LF is a piece of every value
   takes-lf : (r : List ℕ) → belongs_to indent (piece (10 ∷ r)) ≡ true
@@ -110,7 +107,7 @@ module _ (indent : List ℕ) where
       (λ e. rw e (taken (multiline_end indent (not (is_break b)) r) (breaks-kept (not (is_break b)) true r) (breaks-kept (not (is_break b)) false r)))
       (λ e.
       by_bool (eqb b 10)
-      (λ t. absurd (true≢false (sym (takes-lf r) ∙ or_right inside _ (rw (eqb-true b 10 t) at e))))
+      (λ t. absurd (true≢false (sym (takes-lf r) ∙ (or_parts inside _ (rw (eqb-true b 10 t) at e)).1)))
       (λ t. rw (e, t, zero-add)))
     where
       taken : (n : ℕ) → breaks_after true (take n r) + breaks (drop n r) ≡ breaks_after true r → breaks (take n r) + breaks (drop n r) ≡ breaks r

@@ -56,9 +56,9 @@ fn first_hit(low: u64, high: u64) -> usize
     }
 }
 
-// How many bytes stand before the first CR or LF; where the whole sixteens have none, how many they are. The bytes after
-// them are left for the caller to read one by one. Two words are tested at once: that compiles to operations on sixteen
-// bytes.
+// How many bytes stand before the first CR or LF; where the whole sixteens have none, how many they are. The bytes
+// after them are left for the caller to read one by one. Two words are tested at once: that compiles to operations on
+// sixteen bytes.
 pub fn line_sixteens(s: &[u8]) -> usize
     ensures value { result ≡ line_sixteens s.now }
     ensures within { result ≤ length s.now }

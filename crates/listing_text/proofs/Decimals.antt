@@ -27,8 +27,8 @@ fewest n zero f = absurd (omega arith)
 fewest n (suc k) f = in-digits k (suc n) n f.1 (λ h. let e : suc k - 1 ≡ k = omega arith in rw e at (f.2 h)) (omega arith)
 
 -- a number of 64 bits has at most 20
-pub at-most-20 : (n k : ℕ) → n < 2 ^ 64 → IsDigitCount 10 1 n k → k ≤ 20
-at-most-20 n k h f =
+pub at_most_20 : (n k : ℕ) → n < 2 ^ 64 → IsDigitCount 10 1 n k → k ≤ 20
+at_most_20 n k h f =
     by_bool (leb k 20) (leb-true k 20)
     (λ e. let l = leb-false k 20 e in
     let m : 20 ≤ k - 1 = omega arith in

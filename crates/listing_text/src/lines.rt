@@ -7,13 +7,15 @@ use crate::writing::Text;
 use batches::next;
 use parser_words::fresh_parser;
 use text::Refusal;
-use tokenizer_rows::bare_row;
+use tokenizer::Said;
+use tokenizer_rows::said_row;
 
 // How many bytes a document may have.
 const MAX_LISTED: usize = 65536;
 
 impl Text<'_> {
     // A kind is a number; a refusal's, which is 256 more in a row, has an R before it.
+    #[tactic(auto, using(crate::proofs::Placing::placed_cons, std::proofs::lemmas::Bool::Decides::nat_tests), unfolding(crate::specs::Listing::kind_in, crate::specs::Listing::kind_text))]
     fn put_kind(&mut self, number: usize)
         requires { self.old.len + 21 < 2 ^ 64 }
         ensures same_reference { self.new.out.ghost_name ≡ self.old.out.ghost_name }
@@ -58,7 +60,7 @@ pub fn listing(doc: &[u8], out: &mut [u8]) -> usize
     let mut text = Text { out, len: 0 };
     text.put(b"line kind start end\n");
     if MAX_LISTED < doc.len() {
-        text.put_row(&bare_row(256 + usize::from(Refusal::TooLong), 0));
+        text.put_row(&said_row(Said::refused(Refusal::TooLong, 0)));
         return text.len;
     }
     let mut words = [0usize; 278];

@@ -10,6 +10,7 @@ pub(crate) struct Text<'a> {
 }
 
 impl Text<'_> {
+    #[tactic(auto, using(crate::proofs::Placing::placed_next, crate::proofs::Placing::placed_past), unfolding(crate::specs::Text::placed))]
     pub(crate) fn put(&mut self, s: &[u8])
         requires { self.old.len + length s.now < 2 ^ 64 }
         ensures same_reference { self.new.out.ghost_name ≡ self.old.out.ghost_name }
@@ -24,6 +25,7 @@ impl Text<'_> {
         }
     }
 
+    #[tactic(auto, using(crate::proofs::Decimals::fewest, crate::proofs::Decimals::at_most_20))]
     pub(crate) fn put_number(&mut self, n: usize)
         requires { self.old.len + 20 < 2 ^ 64 }
         ensures same_reference { self.new.out.ghost_name ≡ self.old.out.ghost_name }

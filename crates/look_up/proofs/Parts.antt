@@ -11,6 +11,7 @@ use lib.ListN.{length}
 use borrow.Author.Tests.{ltb-true, ltb-false}
 use Rattle.text.specs.declared.refusals.SyntaxError.{SyntaxError}
 use Rattle.text.proofs.Cases.{by_bool, on-cond}
+use Rattle.tokenizer.specs.Step.{bytes_of}
 use Rattle.tokenizer.specs.declared.token.Token.TheVariants as token
 use Rattle.tokenizer_claims.specs.Claims.{Within}
 use Rattle.parser.specs.Lists.{top_entries}
@@ -79,12 +80,16 @@ module _ (d w : List ℕ) where
       (λ e. rw (look-up-over d w (ltb-true 16777216 (length d) e)) tt)
       (λ e. let h = ltb-false 16777216 (length d) e in first-within (refusal_in _) (keys_from d 0 0 (fit d h) (parse-ordered d h)))
 
-  pub part-within : {a : Outcome} {f : Found} → a ≡ look_up d w → a ≡ Ok (Some f) → Within d f.part
-  part-within e q = rw (sym e ∙ q) at found_within
+  pub part_within : {a : Outcome} {f : Found} → a ≡ look_up d w → a ≡ Ok (Some f) → Within d f.part
+  part_within e q = rw (sym e ∙ q) at found_within
+
+pub part_found : (d w : List ℕ) {a : Outcome} {f : Found} → a ≡ look_up d w → a ≡ Ok (Some f) → entry_of d w ≡ bytes_of d f.part
+unfolding entry_of
+part_found d w e q = rw (sym e ∙ q)
 
 -- whatever else the look-up answers has no bytes
-pub none-found : (d w : List ℕ) {a : Outcome} → a ≡ look_up d w → ((f : Found) → a ≡ Ok (Some f) → ⊥) → [] ≡ entry_of d w
+pub none_found : (d w : List ℕ) {a : Outcome} → a ≡ look_up d w → ((f : Found) → a ≡ Ok (Some f) → ⊥) → [] ≡ entry_of d w
 unfolding entry_of
-none-found d w {a = Ok None} e h = rw (← e)
-none-found d w {a = Ok (Some f)} e h = absurd (h f refl)
-none-found d w {a = Err x} e h = rw (← e)
+none_found d w {a = Ok None} e h = rw (← e)
+none_found d w {a = Ok (Some f)} e h = absurd (h f refl)
+none_found d w {a = Err x} e h = rw (← e)

@@ -1,10 +1,10 @@
 -- The look-up's loop: what holds of a search at a state of the parsing, and that a step keeps it or gives what the rule asks.
-use Rattle.std.specs.Prelude.{Some, None, Ok, Err}
-use Rattle.tokenizer.specs.Token.{Answer, values_of}
+use Rattle.std.specs.Prelude.{None}
+use Rattle.tokenizer.specs.Token.{values_of}
 use Prim.Native.Nat.{ℕ, ◌+◌, ◌*◌, ◌≤◌, ◌<◌}
-use mathlib.Core.Path.{◌≡◌, refl, sym, ap, ◌∙◌}
+use mathlib.Core.Path.{◌≡◌, sym, ap, ◌∙◌}
 use mathlib.Core.List.{List, ◌∷◌}
-use mathlib.Core.Bool.{true, false, false≢true}
+use mathlib.Core.Bool.{true, false}
 use native.Mathlib.Omega.{arith}
 use lib.ListN.{length}
 use Rattle.std.proofs.Common.{None, Continue, Break}
@@ -13,6 +13,7 @@ use Rattle.parser.specs.Step.{step_of, fresh}
 use Rattle.tokenizer.specs.Lists.{is_end}
 use Rattle.parser.specs.declared.state.State.{State}
 use Rattle.tokenizer_rows.specs.Rows.{row_of}
+use Rattle.tokenizer_claims.proofs.Readings.{is-end}
 use Rattle.parser_claims.specs.Rests.{rest, Stands}
 use Rattle.parser_claims.proofs.Rests.{fresh-stands, rest_end, rest-step, step-stands}
 use Rattle.parser_claims.proofs.Ordered.{Ordered, tail, parse-ordered}
@@ -37,12 +38,6 @@ begins d w h =
     let r = fresh-stands d h in
     record { stands = r.1; from = 0; ordered = rw r.0 (parse-ordered d h); counts = omega (arith, r.1.bound); finds = rw r.0 }
 
-is-end : (a : Answer) → is_end a ≡ true → a ≡ None
-unfolding is_end
-is-end None e = refl
-is-end (Some (Ok t)) e = absurd (false≢true e)
-is-end (Some (Err x)) e = absurd (false≢true e)
-
 module _ (d w : List ℕ) (t : State) (s : Search) (c : Searching d w t s) where
   abbrev afterwards : Turn → Outcome
   afterwards y = turned d w y (rest d (step_of d t).state)
@@ -65,7 +60,7 @@ module _ (d w : List ℕ) (t : State) (s : Search) (c : Searching d w t s) where
     unfolding on_answer
     not_end =
         by_bool (is_end (step_of d t).answer)
-        (λ e. let q = sym g ∙ ap (on_answer d w s) (is-end _ e) in let z : ◌≡◌ {A = ℕ} 0 1 = cc in absurd (omega arith))
+        (λ e. let q = sym g ∙ ap (on_answer d w s) (is-end _ e) in absurd cc)
         (λ e. e)
 
     left : rest d t ≡ (step_of d t).answer ∷ rest d (step_of d t).state

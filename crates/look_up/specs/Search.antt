@@ -1,18 +1,14 @@
 -- Intermediate: the look-up as one pass over the parser's answers, what one answer does to a search. proofs/Searched
 -- and proofs/Searching show that the pass comes to the law's look-up.
-use Rattle.std.specs.Prelude.{Some, None, Ok, Err, ℕ, ◌+◌, ◌-◌, ◌<◌, ◌^◌, List, Option, cond, eqb, leb, length, get_or}
+use Rattle.std.specs.Prelude.{Some, None, Ok, Err, ℕ, ◌+◌, ◌<◌, ◌^◌, List, Option, cond, eqb, length}
 use Rattle.tokenizer.specs.Token.{Answer}
 use Rattle.std.specs.declared.ops.ControlFlow.{ControlFlow}
 use Rattle.std.specs.declared.ops.ControlFlow.TheVariants.{Break, Continue}
 use Rattle.text.specs.declared.bytes.Part.{Part}
 use Rattle.tokenizer.specs.declared.token.Token.{Token}
 use Rattle.tokenizer.specs.declared.token.Token.TheVariants as token
-use Rattle.tokenizer_rows.specs.Rows.{token_in}
-use Rattle.std.specs.Result.{result_unwrap_or}
-use Rattle.text.specs.Refusals.{refusal_of}
-use Rattle.text.specs.declared.refusals.Refusal.{Refusal}
-use Rattle.text.specs.declared.refusals.Refusal.TheVariants.{UnfitState}
-use Rattle.text.specs.declared.refusals.SyntaxError.{SyntaxError}
+use Rattle.tokenizer.specs.Said.{answer_by}
+use Rattle.tokenizer_rows.specs.Rows.{said_in}
 use Rattle.look_up.specs.Entries.{Outcome, is_named}
 use Rattle.look_up.specs.declared.search.Found.{Found}
 use Rattle.look_up.specs.declared.search.Hit.{Hit}
@@ -61,16 +57,6 @@ on_answer d w s None = Break (closed_at s.hit (length d))
 on_answer d w s (Some (Ok t)) = on_token d w s t
 on_answer d w s (Some (Err e)) = Break (Err e)
 
--- the refusal of a number; that of unfit words, 15, for a number that is no refusal's, which the parser has none of
-abbrev pub refusal_by : ℕ → Refusal
-refusal_by n = result_unwrap_or (refusal_of n) UnfitState
-
-abbrev pub error_by : ℕ → ℕ → SyntaxError
-error_by n l = record { refusal = refusal_by n; line = l }
-
 -- the same by the row of an answer
-unfoldable pub on_row : List ℕ → List ℕ → Search → List ℕ → Turn
-on_row d w s r =
-    let n = get_or r 0 0 in
-    cond (eqb n 0) (Break (closed_at s.hit (length d)))
-    (cond (leb 256 n) (Break (Err (error_by (n - 256) (get_or r 1 0)))) (on_token d w s (token_in r)))
+abbrev pub on_row : List ℕ → List ℕ → Search → List ℕ → Turn
+on_row d w s r = on_answer d w s (answer_by (said_in r))

@@ -1,7 +1,7 @@
 // The look-up: one pass over the parser's answers, a row each, its state in words of its own.
 ghost use Rattle.std.specs.Prelude.{◌≡◌, Ok};
 ghost use Rattle.look_up.specs.Entries.{look_up, entry_of};
-ghost use Rattle.look_up.specs.Search.{HasRoom, found_at, on_key, on_row};
+ghost use Rattle.look_up.specs.Search.{HasRoom, found_at, on_key, on_token, on_row};
 
 use batches::next;
 use parser_words::fresh_parser;
@@ -9,7 +9,7 @@ use std::ops::ControlFlow;
 use text::{Part, Refusal, SyntaxError};
 use token_text::is_text;
 use tokenizer::{State, Token};
-use tokenizer_rows::token_in;
+use tokenizer_rows::said_in;
 
 // What the look-up finds: the key's line, and the entry's part of the document.
 #[derive(Clone, Copy)]
@@ -76,23 +76,13 @@ impl Search {
         ControlFlow::Continue(self)
     }
 
-    // End and a refusal end the search, Indents and Outdents are counted, keys are compared. A number that is no
-    // refusal's would be of words that no step left: 15.
-    #[tactic(auto, unfolding(crate::specs::Search::on_row, crate::specs::Search::on_token))]
-    fn on_row(self, row: &[usize; 7], doc: &[u8], wanted: &[u8]) -> Turn
+    // Indents and Outdents are counted, keys are compared.
+    #[tactic(auto, unfolding(crate::specs::Search::on_token))]
+    fn on_token(self, t: Token, doc: &[u8], wanted: &[u8]) -> Turn
         requires { HasRoom self }
-        ensures { result ≡ on_row doc.now wanted.now self row.now }
+        ensures { result ≡ on_token doc.now wanted.now self t }
     {
-        let [number, line, ..] = *row;
-        if number == 0 {
-            let end = doc.len();
-            return ControlFlow::Break(Ok(self.hit.map(|hit| hit.up_to(end))));
-        }
-        if 256 <= number {
-            let refusal = Refusal::try_from(number - 256).unwrap_or(Refusal::UnfitState);
-            return ControlFlow::Break(Err(SyntaxError { refusal, line }));
-        }
-        match token_in(row) {
+        match t {
             Token::Indent(_) => ControlFlow::Continue(Search {
                 indents: self.indents + 1,
                 ..self
@@ -105,12 +95,28 @@ impl Search {
             _ => ControlFlow::Continue(self),
         }
     }
+
+    // The answer of a row: End and a refusal end the search.
+    #[tactic(auto, unfolding(crate::specs::Search::on_answer))]
+    fn on_row(self, row: &[usize; 7], doc: &[u8], wanted: &[u8]) -> Turn
+        requires { HasRoom self }
+        ensures { result ≡ on_row doc.now wanted.now self row.now }
+    {
+        match said_in(row).answer() {
+            None => {
+                let end = doc.len();
+                ControlFlow::Break(Ok(self.hit.map(|hit| hit.up_to(end))))
+            }
+            Some(Ok(t)) => self.on_token(t, doc, wanted),
+            Some(Err(e)) => ControlFlow::Break(Err(e)),
+        }
+    }
 }
 
-// The first top-level key whose text, unescaped, is `wanted`: its line, and the part from its first byte, which may be a
-// quote, to the next top-level key's, or to the document's end. A key that unescaping refuses has no name, and is passed
-// over. The parser's refusal, met before the entry's end, is the answer; 12 over the limit. A loop, since each step
-// writes its row and the state into lent words: an iterator would have to hold both.
+// The first top-level key whose text, unescaped, is `wanted`: its line, and the part from its first byte, which may be
+// a quote, to the next top-level key's, or to the document's end. A key that unescaping refuses has no name, and is
+// passed over. The parser's refusal, met before the entry's end, is the answer; 12 over the limit. A loop, since each
+// step writes its row and the state into lent words: an iterator would have to hold both.
 pub fn look_up(doc: &[u8], wanted: &[u8]) -> Outcome
     ensures { result ≡ look_up doc.now wanted.now }
 {
@@ -136,6 +142,7 @@ pub fn look_up(doc: &[u8], wanted: &[u8]) -> Outcome
 }
 
 // The part of the document that the look-up finds, else an empty one.
+#[tactic(auto, using(crate::proofs::Parts::part_within, crate::proofs::Parts::part_found, crate::proofs::Parts::none_found), unfolding(crate::specs::Entries::entry_of))]
 pub fn entry<'a>(doc: &'a [u8], wanted: &[u8]) -> &'a [u8]
     ensures { result.now ≡ entry_of doc.now wanted.now }
 {

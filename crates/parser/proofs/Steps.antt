@@ -1,17 +1,15 @@
 -- The step by the code's own branches: over the limit, unfit, refused before, and else by what was kept.
 use Rattle.std.specs.Prelude.{None}
 use Prim.Native.Nat.{ℕ, ◌≤◌, ◌<◌}
-use mathlib.Core.Path.{◌≡◌, ap}
+use mathlib.Core.Path.{◌≡◌}
 use mathlib.Core.List.{List}
 use mathlib.Core.Bool.{true, false}
 use lib.ListN.{length}
 use borrow.Author.Tests.{lt-ltb, le-ltb}
-use Rattle.tokenizer.specs.Token.{values_of}
 use Rattle.tokenizer.specs.Step.{fit}
 use Rattle.parser.specs.Step.{refusal, step_kept, step_of}
 use Rattle.parser.specs.declared.state.State.{State}
 use Rattle.text.specs.declared.refusals.Refusal.TheVariants.{TooLong, UnfitState}
-use Rattle.tokenizer.specs.declared.state.Step.{Step}
 
 module _ (d : List ℕ) (s : State) where
   pub over : 16777216 < length d → step_of d s ≡ refusal TooLong s
@@ -30,7 +28,3 @@ module _ (d : List ℕ) (s : State) where
   pub goes_on : length d ≤ 16777216 → fit (length d) s.tokenizer ≡ true → s.refused ≡ false → step_of d s ≡ step_kept d s s.kept
   unfolding step_of
   goes_on h e r = simp (le-ltb 16777216 (length d) h, e, r)
-
--- what the step promises of an equal step
-pub promised : {x y : Step State} → x ≡ y → (values_of x.answer ≡ values_of y.answer) × (x.state ≡ y.state)
-promised e = (ap (λ (z : Step State). values_of z.answer) e, ap (λ (z : Step State). z.state) e)

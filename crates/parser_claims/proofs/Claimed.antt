@@ -1,34 +1,28 @@
 -- Claims 1 and 2 for the parser, proved: the parser's steps along the reading of a document, from the fresh states; and a state has
 -- only one parsing.
-use Rattle.std.specs.Prelude.{None}
 use Rattle.tokenizer.specs.Token.{Answer}
 use Prim.Native.Nat.{ℕ, ◌*◌, ◌≤◌}
 use mathlib.Core.Path.{◌≡◌, refl, sym, ap, ◌∙◌, subst}
 use mathlib.Core.List.{List}
-use mathlib.Core.Bool.{false, false≢true}
 use native.Mathlib.Omega.{arith}
 use lib.Dec.{ltb}
 use lib.ListN.{length}
 use borrow.Author.Tests.{ltb-true, ltb-false, lt-ltb, le-ltb}
 use Rattle.text.proofs.Cases.{by_bool}
-use Rattle.tokenizer.specs.Lists.{tokens, is_end}
+use Rattle.tokenizer.specs.Lists.{tokens}
 use Rattle.tokenizer.specs.Step.{fresh as fresh_tokenizer}
 use Rattle.tokenizer_claims.proofs.Sound.{fresh-sound}
+use Rattle.tokenizer_claims.proofs.Readings.{no_more}
 use Rattle.tokenizer_claims.proofs.Claimed.{ends as reading-ends}
 use Rattle.parser.specs.Step.{fresh}
 use Rattle.parser.specs.Lists.{Parses, ends as at-end, says, ParseList, over, read, parsed, fresh_stand, parse}
+use Rattle.parser_rules.specs.declared.ruling.Awaited.TheVariants as awaited
 use Rattle.parser.specs.declared.state.State.{State}
 use Rattle.parser_claims.specs.Claims.{Ends, Lists, Fit}
 use Rattle.parser_claims.proofs.Tokens.{room}
-use Rattle.parser_claims.proofs.Rulings.{Tied}
+use Rattle.parser_claims.proofs.Rulings.{budget, Tied}
 use Rattle.parser_claims.proofs.Sections.{none, one}
 use Rattle.parser_claims.proofs.Steps.{Comes, comes}
-use Rattle.tokenizer.specs.declared.state.Step.{Step}
-
--- after End nothing is said
-no_more : {x : Step State} {a : Answer} {p : State} → x.answer ≡ None → x ≡ record { answer = a; state = p } → is_end a ≡ false → ⊥
-unfolding is_end
-no_more e q f = false≢true (sym f ∙ ap is_end (rw q at e))
 
 -- the answers of a parsing are determined
 parses-one : {d : List ℕ} {p u v : State} {l m : List Answer} → Parses d p l u → Parses d p m v → l ≡ m
@@ -43,13 +37,13 @@ parses-one {d} (says {l = l} q f r) (says {u = v} {l = m} q' f' r') =
 pub fresh-tied : (d : List ℕ) → Tied d fresh_tokenizer fresh_stand
 unfolding fresh_tokenizer
 fresh-tied d = record {
-  value = λ x. false≢true x.mark;
-  multiline = false≢true;
+  value = λ x. cc;
+  multiline = λ x. cc;
   early = λ x. refl;
   sections = refl;
 }
 
-fresh-room : (d : List ℕ) → room d fresh_tokenizer ≤ 2 * length d
+fresh-room : (d : List ℕ) → budget d fresh_tokenizer awaited.Nothing ≤ 2 * length d
 unfolding room fresh_tokenizer
 fresh-room d = omega arith
 
@@ -58,7 +52,7 @@ module _ (d : List ℕ) (h : length d ≤ 16777216) where
   unfolding parse
   parse-within = rw (le-ltb 16777216 (length d) h)
 
-  fresh-comes : Comes d fresh (parse d) (room d fresh_tokenizer)
+  fresh-comes : Comes d fresh (parse d) (budget d fresh_tokenizer awaited.Nothing)
   unfolding fresh
   fresh-comes =
       rw parse-within

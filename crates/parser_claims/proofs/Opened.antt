@@ -6,7 +6,6 @@ use Rattle.tokenizer.specs.Token.{Answer as Came, Answer}
 use Prim.Native.Nat.{ℕ, suc, ◌≤◌, ◌<◌}
 use mathlib.Core.Path.{◌≡◌, refl, sym, ap, ◌∙◌}
 use mathlib.Core.List.{List, [], ◌∷◌}
-use mathlib.Core.Bool.{true≢false}
 use native.Mathlib.Omega.{arith}
 use lib.Dec.{ltb}
 use lib.ListN.{length}
@@ -157,7 +156,7 @@ module _ (d : List ℕ) (h : length d ≤ 16777216) where
       → (k : ℕ) (opened : List ℕ) (s : Stand) → At t k opened s → Shown k opened (parsed s cs)
   unfolding is_end ruling_of feed parsed
   reads-shown (ends e) o k opened s y = at-end s.awaited s.sections
-  reads-shown (says {s = t} {t = u} {a = None} q f r) o k opened s y = absurd (true≢false f)
+  reads-shown (says {s = t} {t = u} {a = None} q f r) o k opened s y = absurd cc
   reads-shown (says {s = t} {t = u} {a = Some (Err e)} q f r) o k opened s y = refused
   reads-shown (says {s = t} {t = u} {a = Some (Ok x)} {as₁ = cs} q f r) o k opened s y =
       fed d t u cs (reads-shown r (rw q at (sound-kept d h t o))) s y (rw q at (step-told d t h o y.early))

@@ -2,14 +2,15 @@
 use Rattle.tokenizer.specs.Token.{Answer}
 use Prim.Native.Nat.{ℕ, zero, suc, ◌*◌, ◌≤◌}
 use mathlib.Core.Path.{◌≡◌, refl, sym, ap, ◌∙◌}
-use mathlib.Core.List.{List, [], ◌∷◌}
-use mathlib.Core.Bool.{true, false, false≢true}
+use mathlib.Core.List.{List, ◌∷◌}
+use mathlib.Core.Bool.{false}
 use native.Mathlib.Omega.{arith}
 use lib.ListN.{length}
 use Rattle.parser.specs.Step.{step_of}
 use Rattle.parser.specs.Lists.{Parses, ends, says}
 use Rattle.tokenizer.specs.Lists.{is_end}
 use Rattle.parser.specs.declared.state.State.{State}
+use Rattle.tokenizer_claims.proofs.Readings.{is-end}
 use Rattle.parser_claims.specs.Claims.{Fits, All}
 use Rattle.parser_claims.specs.Rests.{up_to, rest, Stands, FreshStands, RestEnd, RestStep, StepFits, StepStands}
 use Rattle.parser_claims.proofs.Steps.{Comes}
@@ -33,13 +34,8 @@ fresh-stands d h =
     let e = claimed.ends d h in
     stands d (record { last = e.last; parses = e.parses; fits = claimed.fit d h; bound = e.bound })
 
-up-to-end : (d : List ℕ) (s : State) (n : ℕ) → is_end (step_of d s).answer ≡ true → up_to d n s ≡ []
-unfolding up_to
-up-to-end d s zero e = refl
-up-to-end d s (suc n) e = rw e
-
 pub rest_end : RestEnd
-rest_end d s e = up-to-end d s (2 * length d) e
+rest_end d s e = up-to (2 * length d) (ends (is-end (step_of d s).answer e)) (omega arith)
 
 -- an answer that is not End, and what comes after it
 record Onward (d : List ℕ) (x : Step State) (l : List Answer) : Type 0 where
@@ -51,7 +47,7 @@ record Onward (d : List ℕ) (x : Step State) (l : List Answer) : Type 0 where
 onward : (d : List ℕ) {s u : State} {l : List Answer} → Parses d s l u → All (Fits d) l → length l ≤ 2 * length d
     → is_end (step_of d s).answer ≡ false → Onward d (step_of d s) l
 unfolding is_end
-onward d (ends e) f h z = absurd (false≢true (sym z ∙ ap is_end e))
+onward d (ends e) f h z = let q = ap is_end e in absurd cc
 onward d {u = u} (says {l = l} e i r) f h z =
     rw e (record { after = l; left = refl; fits = f.0; next = record { last = u; parses = r; fits = f.1; bound = omega arith } })
 

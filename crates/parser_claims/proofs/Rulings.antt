@@ -5,10 +5,10 @@ use Rattle.text.specs.declared.refusals.Refusal.TheVariants.{MissingMultiline, U
 use Rattle.text.specs.declared.refusals.Refusal.{Refusal}
 use Rattle.std.specs.Prelude.{Some, None, Ok, Err, Option}
 use Rattle.tokenizer.specs.Token.{Answer as Came}
-use Prim.Native.Nat.{ℕ, suc, ◌≤◌, ◌<◌}
+use Prim.Native.Nat.{ℕ, suc, ◌+◌, ◌≤◌, ◌<◌}
 use mathlib.Core.Path.{◌≡◌, refl}
 use mathlib.Core.List.{List, [], ◌∷◌}
-use mathlib.Core.Bool.{Bool, false, true≢false}
+use mathlib.Core.Bool.{Bool, false}
 use native.Mathlib.Omega.{arith}
 use lib.ListN.{length}
 use Rattle.text.proofs.Cases.{on-cond}
@@ -77,21 +77,15 @@ pub record Tied (d : List ℕ) (t : Tokenizer) (s : Stand) : Type 0 where
   pub early : Early t
   pub sections : length s.sections ≡ suc t.depth
 
--- What a parsing has left to spend: what is awaited may cost an answer of its own, NoValue or refusal 4.
+-- What is awaited may cost an answer of its own, NoValue or refusal 4.
+abbrev pub owed : Awaited → ℕ
+owed awaited.Nothing = 0
+owed (awaited.Value l) = 1
+owed (awaited.Multiline l) = 1
+
+-- what a parsing has left to spend
 abbrev pub budget : List ℕ → Tokenizer → Awaited → ℕ
-budget d t awaited.Nothing = room d t
-budget d t (awaited.Value l) = suc (room d t)
-budget d t (awaited.Multiline l) = suc (room d t)
-
-room-le : (d : List ℕ) (t : Tokenizer) (a : Awaited) → room d t ≤ budget d t a
-room-le d t awaited.Nothing = omega arith
-room-le d t (awaited.Value l) = omega arith
-room-le d t (awaited.Multiline l) = omega arith
-
-budget-lt : (d : List ℕ) (t u : Tokenizer) (a : Awaited) → room d u < room d t → budget d u a < budget d t a
-budget-lt d t u awaited.Nothing h = h
-budget-lt d t u (awaited.Value l) h = omega arith
-budget-lt d t u (awaited.Multiline l) h = omega arith
+budget d t a = room d t + owed a
 
 -- a ruling that keeps nothing, u being the tokenizer's state after it, where b may be spent
 pub data Settled (d : List ℕ) (u : Tokenizer) (sections : List Section) (b : ℕ) : Ruling → Type 0 where
@@ -112,28 +106,28 @@ module _ (d : List ℕ) (t u : Tokenizer) where
   -- Outdent, and a key or item that n refuses, where nothing, or no longer a value, is awaited
   module _ (multiline : MultilineDue t → ⊥) where
     on-outdent : (l o : ℕ) (sections : List Section) → length sections ≡ suc t.depth → TokenTold d t (Outdent l o) u
-        → Settled d u sections (room d t) (on_outdent l (innermost sections))
+        → Settled d u sections (budget d t awaited.Nothing) (on_outdent l (innermost sections))
     unfolding on_outdent
     on-outdent l o [] h w = absurd (omega arith)
     on-outdent l o (i ∷ sections) h w = gives awaited.Nothing Close tt (tied w.1 (λ x. x) multiline (omega arith)) (omega arith)
 
     on-entry : (x : Token) (l : ℕ) (e : Sort) (r : Refusal) (sections : List Section) → (1 ≤ number_of r) × (number_of r ≤ 7) → length sections ≡ suc t.depth
         → TokenFits d x → Turned d t u (Unit {0}) (MultilineDue t) t.depth 2
-        → Settled d u sections (room d t) (on_entry x l e r (innermost sections))
+        → Settled d u sections (budget d t awaited.Nothing) (on_entry x l e r (innermost sections))
     unfolding on_entry
     on-entry x l e r [] p h f w = absurd (omega arith)
     on-entry x l e r (i ∷ sections) p h f w =
-        on-cond (Settled d u (i ∷ sections) (room d t)) (clashes i.sort e)
+        on-cond (Settled d u (i ∷ sections) (budget d t awaited.Nothing)) (clashes i.sort e)
         (λ c. stops r p (omega arith))
         (λ c. gives (awaited.Value l) (Fix e) f (tied w (λ x. tt) multiline h) (omega arith))
 
     on-item : (l : ℕ) (sections : List Section) → length sections ≡ suc t.depth → TokenTold d t (ListItem l) u
-        → Settled d u sections (room d t) (settled (innermost sections) (ListItem l))
+        → Settled d u sections (budget d t awaited.Nothing) (settled (innermost sections) (ListItem l))
     unfolding settled
     on-item l sections h w = on-entry (ListItem l) l Listed UnexpectedItem sections (omega arith) h tt w.1
 
     on-key : (l : ℕ) (p : Part) (sections : List Section) → length sections ≡ suc t.depth → Text d p → TokenTold d t (MapKey l p) u
-        → Settled d u sections (room d t) (settled (innermost sections) (MapKey l p))
+        → Settled d u sections (budget d t awaited.Nothing) (settled (innermost sections) (MapKey l p))
     unfolding settled
     on-key l p sections h f w = on-entry (MapKey l p) l Map UnexpectedKey sections (omega arith) h f w.1
 
@@ -141,10 +135,10 @@ module _ (d : List ℕ) (t u : Tokenizer) where
     -- Newline and Comment pass
     passes : (a : Awaited) (x : Token) → Tied d t (stand a sections) → TokenFits d x → Turned d t u (Due d t) (MultilineDue t) t.depth 1
         → Settled d u sections (budget d t a) (giving x a Keep)
-    passes a x s f w = gives a Keep f (tied w s.value s.multiline s.sections) (budget-lt d t u a (omega arith))
+    passes a x s f w = gives a Keep f (tied w s.value s.multiline s.sections) (omega arith)
 
     on-settled : (x : Token) → Tied d t (stand awaited.Nothing sections) → ReadFits d x → TokenTold d t x u
-        → Settled d u sections (room d t) (settled (innermost sections) x)
+        → Settled d u sections (budget d t awaited.Nothing) (settled (innermost sections) x)
     unfolding settled
     on-settled (Newline l) s f w = passes awaited.Nothing (Newline l) s f w
     on-settled (Comment l p) s f w = passes awaited.Nothing (Comment l p) s f w
@@ -158,7 +152,7 @@ module _ (d : List ℕ) (t u : Tokenizer) where
     on-settled (NoValue l) s f w = absurd w
 
     after-entry : (n : ℕ) (x : Token) → Tied d t (stand (awaited.Value n) sections) → ReadFits d x → TokenTold d t x u
-        → Outcome d u sections (suc (room d t)) (after_entry n false x)
+        → Outcome d u sections (budget d t (awaited.Value n)) (after_entry n false x)
     unfolding settled after_entry on_indent
     after-entry n (Newline l) s f w = once (passes (awaited.Value n) (Newline l) s f w)
     after-entry n (Comment l p) s f w = once (passes (awaited.Value n) (Comment l p) s f w)
@@ -172,11 +166,11 @@ module _ (d : List ℕ) (t u : Tokenizer) where
     after-entry n (MultilineValue l i p) s f w = absurd (s.multiline w.0)
     after-entry n (NoValue l) s f w = absurd w
 
-    refused : (n : ℕ) → Settled d u sections (suc (room d t)) (refuses MissingMultiline n awaited.Nothing)
+    refused : (n : ℕ) → Settled d u sections (budget d t (awaited.Multiline n)) (refuses MissingMultiline n awaited.Nothing)
     refused n = stops MissingMultiline (omega arith) (omega arith)
 
     after-hint : (n : ℕ) (x : Token) → Tied d t (stand (awaited.Multiline n) sections) → ReadFits d x → TokenTold d t x u
-        → Settled d u sections (suc (room d t)) (after_hint n x)
+        → Settled d u sections (budget d t (awaited.Multiline n)) (after_hint n x)
     unfolding after_hint
     after-hint n (Newline l) s f w = passes (awaited.Multiline n) (Newline l) s f w
     after-hint n (Comment l p) s f w = passes (awaited.Multiline n) (Comment l p) s f w
@@ -199,9 +193,9 @@ module _ (d : List ℕ) (t u : Tokenizer) where
   pub outcome : (s : Stand) (c : Came) → is_end c ≡ false → Tied d t s → Vouched d t c → Told d t c u
       → Outcome d u s.sections (budget d t s.awaited) (ruled s c)
   unfolding ruling_of is_end
-  outcome s None e w f v = absurd (true≢false e)
+  outcome s None e w f v = absurd cc
   outcome s (Some (Ok x)) e w f v = on-token s.sections s.awaited x w f v
-  outcome s (Some (Err x)) e w f v = once (stops x.refusal (omega arith) (omega (arith, room-le d t s.awaited)))
+  outcome s (Some (Err x)) e w f v = once (stops x.refusal (omega arith) (omega arith))
 
 -- Where a section may still open, the record is not full, so its guard is idle.
 module _ (d : List ℕ) (t u : Tokenizer) (full : Bool) (idle : t.depth < 64 → full ≡ false) where

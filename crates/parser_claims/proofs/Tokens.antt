@@ -7,7 +7,7 @@ use Rattle.tokenizer.specs.Token.{Answer}
 use Prim.Native.Nat.{ℕ, suc, ◌+◌, ◌*◌, ◌-◌, ◌≤◌, ◌<◌}
 use mathlib.Core.Path.{◌≡◌, refl, sym, ap, ◌∙◌}
 use mathlib.Core.List.{List, [], ◌∷◌}
-use mathlib.Core.Bool.{Bool, true, false, true≢false, false≢true}
+use mathlib.Core.Bool.{true, false}
 use native.Mathlib.Nat.{add-zero}
 use native.Mathlib.Numerals.{add-one}
 use native.Mathlib.Omega.{arith}
@@ -40,7 +40,7 @@ use Rattle.tokenizer.specs.declared.state.State.{State}
 use Rattle.tokenizer_rules.proofs.PlanCases.{plan_hinted, Entry, later, first}
 use Rattle.tokenizer.proofs.Bounds.{Bounded, rest-size}
 use Rattle.tokenizer_claims.proofs.Sound.{rest_of, indent_at, answer_at, StepCases, step-cases, step-bounded, Sound, step-sound}
-use Rattle.tokenizer_claims.proofs.Weight.{count, held_size, weight, other-pos, Turn, plan-turns}
+use Rattle.tokenizer_claims.proofs.Weight.{count, held_size, weight, other-pos, count-le, entry-late, Turn, plan-turns}
 
 -- what stands after the indentation
 abbrev pub left : List ℕ → State → List ℕ
@@ -87,17 +87,9 @@ Told d t None u = Unit {0}
 Told d t (Some (Ok k)) u = TokenTold d t k u
 Told d t (Some (Err e)) u = 1 ≤ room d t
 
-count-le : (t : Bool) → count t ≤ 1
-count-le true = omega arith
-count-le false = omega arith
-
-entry-late : {m n : Marks} {inner indent : List ℕ} → Entry m inner indent n → n.indent ≡ false
-entry-late (later e) = e
-entry-late (first e q) = refl
-
 entry-multiline : {m n : Marks} {inner indent : List ℕ} → Entry m inner indent n → n.multiline ≡ true → m.multiline ≡ true
 entry-multiline (later e) u = u
-entry-multiline (first e q) u = absurd (false≢true u)
+entry-multiline (first e q) u = absurd cc
 
 hint-value : (x : Option Part) (m : Marks) → (hint_marks x m).value ≡ m.value
 hint-value (Some p) m = refl
@@ -112,7 +104,7 @@ module _ (d : List ℕ) (t : State) where
   -- no value mark is left
   unmarked : {u : State} {A B : Type 0} {n k : ℕ} → u.marks.value ≡ false → (MultilineDue u → B) → u.depth ≡ n
       → k + room d u ≤ room d t → Turned d t u A B n k
-  unmarked v m e s = record { value = λ x. absurd (true≢false (sym x.mark ∙ v)); multiline = m; early = λ i. v; depth = e; spent = s }
+  unmarked v m e s = record { value = λ x. absurd cc; multiline = m; early = λ i. v; depth = e; spent = s }
 
   -- a key or item leaves the value mark, past the start of its line
   entered : {m : Marks} {inner indent : List ℕ} {u : State} → Entry t.marks inner indent m → u.marks ≡ with_value true m
@@ -120,7 +112,7 @@ module _ (d : List ℕ) (t : State) where
   entered e q h s = record {
     value = λ x. tt;
     multiline = λ x. entry-multiline e (sym (ap (λ m. m.multiline) q) ∙ x);
-    early = λ i. absurd (true≢false (sym i ∙ ap (λ m. m.indent) q ∙ entry-late e));
+    early = λ i. let l = ap (λ m. m.indent) q ∙ entry-late e in absurd cc;
     depth = h;
     spent = s;
   }
@@ -156,7 +148,7 @@ module _ (d : List ℕ) (t : State) where
         line = λ b r q.
             let s = b ∷ r in
             let z = rest-size k rest b r q in
-            let more : left d t ≡ [] → ⊥ = λ e. let z : ◌≡◌ {A = ℕ} 0 1 = cc in omega arith in
+            let more : left d t ≡ [] → ⊥ = λ e. cc in
             let some : 1 ≤ room d t = omega arith in
             record {
               newline = λ e h w. unmarked refl (λ x. x) refl (omega (arith, break-pos b r e));
@@ -172,11 +164,11 @@ module _ (d : List ℕ) (t : State) where
               multiline = λ c i e u h w.
                   let y = plan_multiline (cleared t.marks) indent rest in
                   said-told _ (checked_of BlanksAndBreaks (take (multiline_end indent false rest) rest)) (after y) some
-                  (λ p q. (u, unmarked (early i) false≢true refl (omega (arith, w.falls (rw q)))));
-              opens = λ c i e u n h w. (n, unmarked (early i) false≢true (add-one t.depth) (omega (arith, w.falls refl)));
+                  (λ p q. (u, unmarked (early i) (λ x. cc) refl (omega (arith, w.falls (rw q)))));
+              opens = λ c i e u n h w. (n, unmarked (early i) (λ x. cc) (add-one t.depth) (omega (arith, w.falls refl)));
               full = λ c i e u n h w. some;
               outdent = λ c i e h w.
-                  (other-pos d t.indents t.depth _ e, unmarked (early i) (λ x. absurd (false≢true x)) refl (omega (arith, w.falls refl)));
+                  (other-pos d t.indents t.depth _ e, unmarked (early i) (λ x. absurd cc) refl (omega (arith, w.falls refl)));
               item = λ c e v f h w. (line, entered e refl refl (omega (arith, w.falls refl, ap count v)));
               key = λ {n = m} c e v f h w.
                   said-told _ (checked_of Blanks (take (text_end 61 s) s)) (after (plan_key m k s)) some

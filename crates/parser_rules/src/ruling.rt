@@ -1,5 +1,5 @@
-// What the parser makes of one answer of the tokenizer: the ruling knows neither the document nor the record of sections. It is
-// judged by numbers; here the judgement becomes the ruling.
+// What the parser makes of one answer of the tokenizer: the ruling knows neither the document nor the record of
+// sections. It is judged by numbers; here the judgement becomes the ruling.
 ghost use Rattle.std.specs.Prelude.{◌≡◌};
 ghost use Rattle.tokenizer.specs.Token.{token_values};
 ghost use Rattle.tokenizer.specs.declared.token.Token.TheVariants.{Outdent};
@@ -65,7 +65,8 @@ pub struct Verdict {
     pub refused: bool,
 }
 
-// End and an unfit state, 15, change nothing: they leave no verdict, and neither is a failure, so that this is no Result.
+// End and an unfit state, 15, change nothing: they leave no verdict, and neither is a failure, so that this is no
+// Result.
 #[derive(Clone, Copy)]
 pub enum Ruling {
     Says(Verdict),
@@ -142,6 +143,7 @@ fn kind(t: Token) -> usize
     }
 }
 
+// For `judge`, which goes by numbers.
 fn sort_number(innermost: Option<Section>) -> usize
     ensures { result ≡ sort_number innermost }
 {

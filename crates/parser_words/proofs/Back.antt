@@ -11,7 +11,9 @@ use lib.ListN.{length, drop, get_or, take, get_or-eq_default, length-take}
 use lib.Seq.{drop_at, get_or-drop, drop-drop}
 use borrow.Author.Tests.{ne_eqb}
 use Rattle.parser_rules.specs.Judging.{awaited_number, awaited_line}
-use Rattle.tokenizer_rows.specs.Rows.{row_of, token_by, token_in}
+use Rattle.tokenizer.specs.Said.{token_of}
+use Rattle.tokenizer.specs.declared.said.Said.{Said}
+use Rattle.tokenizer_rows.specs.Rows.{row_of, said_in, token_in}
 use Rattle.tokenizer_rows.proofs.Back.{kinds}
 use Rattle.parser_words.specs.Claims.{KeepsNone}
 use Rattle.tokenizer_words.proofs.Slots.{words-137}
@@ -38,7 +40,7 @@ not-11 t = ne_eqb (token_values t).number 11 (λ e. let k = (kinds t).1 in omega
 
 -- the first six words of its row are enough for a token that carries no line
 six-back : (t : Token) (r : List ℕ) → (token_values t).opened ≡ 0 → token_in (take 6 (row_of (token_values t) ++ r)) ≡ t
-unfolding token_in token_by token_values
+unfolding token_in token_of token_values
 six-back (token.Newline l) r e = refl
 six-back (token.Comment l p) r e = refl
 six-back (token.Indent l) r e = refl
@@ -51,10 +53,11 @@ six-back (token.MultilineValue l i p) r e = refl
 six-back (token.NoValue l) r e = refl
 
 -- and what is read from them carries none
-by-none : (n l : ℕ) (p i : Part) (o : ℕ) → o ≡ 0 → (token_values (token_by n l p i o)).opened ≡ 0
-unfolding token_by token_values
-by-none n l p i o e =
+by-none : (s : Said) → s.opened ≡ 0 → (token_values (token_of s)).opened ≡ 0
+unfolding token_of token_values
+by-none s e =
     let None : Token → Type 0 = λ t. (token_values t).opened ≡ 0 in
+    let n = s.number in
     on-cond None (eqb n 1) (λ _. refl) (λ _. on-cond None (eqb n 2) (λ _. refl) (λ _. on-cond None (eqb n 3) (λ _. refl)
     (λ _. on-cond None (eqb n 4) (λ _. e) (λ _. on-cond None (eqb n 5) (λ _. refl) (λ _. on-cond None (eqb n 6) (λ _. refl)
     (λ _. on-cond None (eqb n 7) (λ _. refl) (λ _. on-cond None (eqb n 8) (λ _. refl) (λ _. on-cond None (eqb n 9) (λ _. refl) (λ _. refl)))))))))
@@ -64,8 +67,7 @@ unfolding parser_in kept_in token_in
 reads-none w =
     let x = take 6 (drop 140 w) in
     on-cond KeepsNone (eqb (get_or x 0 0) 0) (λ _. tt) (λ _. on-cond KeepsNone (eqb (get_or x 0 0) 11) (λ _. tt)
-    (λ _. by-none (get_or x 0 0) (get_or x 1 0) _ _ (get_or x 6 0)
-    (get_or-eq_default x 0 (omega (arith, length-take 6 (drop 140 w))))))
+    (λ _. by-none (said_in x) (get_or-eq_default x 0 (omega (arith, length-take 6 (drop 140 w))))))
 
 kept_back : (k : Kept) (r : List ℕ) → KeepsNone k → kept_in (take 6 (kept_words k ++ r)) ≡ k
 unfolding kept_in kept_words

@@ -73,7 +73,7 @@ fn kept_in(w: &[usize]) -> Kept
     Kept::Token(token_in(w))
 }
 
-// A sort's word.
+// A sort's word. No `From`, since neither type is this crate's.
 #[tactic(auto, unfolding(crate::specs::ParserWords::sort_word))]
 pub fn sort_word(s: Sort) -> usize
     ensures { result ≡ sort_word s }
@@ -136,7 +136,7 @@ fn middle(s: State) -> [usize; 11]
     middle_by(s.refused, awaited, kept, s.count)
 }
 
-// Writes the sections, two words each, after the 148.
+// Writes the sections, two words each, after the 148, as tokenizer_words writes its slots.
 fn put_sections(sections: [Section; 65], w: &mut [usize])
     requires { parser_size ≤ length w.old }
     ensures { w.new ≡ pasted (section_words sections) 148 w.old }
@@ -187,8 +187,8 @@ fn copy_parser(src: &[usize], dst: &mut [usize])
     paste(&m, 137, dst);
 }
 
-// Stores at the front of dst the state of src: true; or false, with nothing written, where it is no state, or does not fit a document
-// of n bytes. The state never leaves its words.
+// Stores at the front of dst the state of src: true; or false, with nothing written, where it is no state, or does not
+// fit a document of n bytes. The state never leaves its words: see `restore` of tokenizer_words.
 pub fn restore_parser(n: usize, src: &[usize], dst: &mut [usize]) -> bool
     ensures value { result ≡ (parser_readable src.now && fit n (parser_in src.now).tokenizer) }
     ensures dst_after { dst.new ≡ cond result (parser_stored_in (parser_in src.now) dst.old) dst.old }

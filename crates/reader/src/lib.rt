@@ -1,4 +1,5 @@
-// Document 01's two thin forms over the covered steps: a parser's state that the caller lends, and a reader that holds its document.
+// Document 01's two thin forms over the covered steps: a parser's state that the caller lends, and a reader that holds
+// its document.
 #![tactic(auto)]
 
 mod parses;

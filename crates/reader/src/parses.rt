@@ -1,5 +1,4 @@
 // The parser's step over a state that the caller lends.
-ghost use Rattle.tokenizer.specs.Token.{values_of};
 ghost use Rattle.std.specs.Prelude.{◌≡◌};
 ghost use Rattle.parser.specs.Step.{step_of};
 
@@ -7,7 +6,7 @@ use parser::{Answer, State};
 
 // The answer of one step; the lent state is advanced by it. 12, 15 and End leave it the very same.
 pub fn next(state: &mut State, doc: &[u8]) -> Answer
-    ensures result_value { values_of result ≡ values_of (step_of doc.now state.old).answer }
+    ensures value { result ≡ (step_of doc.now state.old).answer }
     ensures state_after { state.new ≡ (step_of doc.now state.old).state }
 {
     let m = state.step(doc);

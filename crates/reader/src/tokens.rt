@@ -1,6 +1,5 @@
 // A tokenizer that holds its document beside its state, as the Rust's does.
 ghost use Rattle.std.specs.Prelude.{◌≡◌};
-ghost use Rattle.tokenizer.specs.Token.{values_of};
 ghost use Rattle.tokenizer.specs.Step.{step_of, fresh};
 
 use tokenizer::{Answer, State};
@@ -23,9 +22,10 @@ impl<'tok> Tokenizer<'tok> {
         }
     }
 
-    // The answer of one step over the document held; the state held is advanced by it. 12 and 15 leave it the very same.
+    // The answer of one step over the document held; the state held is advanced by it. 12 and 15 leave it the very
+    // same.
     pub fn next(&mut self) -> Answer
-        ensures result_value { values_of result ≡ values_of (step_of self.old.doc.now self.old.state).answer }
+        ensures value { result ≡ (step_of self.old.doc.now self.old.state).answer }
         ensures state_after { self.new.state ≡ (step_of self.old.doc.now self.old.state).state }
         ensures doc_unchanged { self.new.doc ≡ self.old.doc }
     {

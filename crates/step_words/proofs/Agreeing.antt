@@ -11,7 +11,7 @@ use mathlib.Core.Bool.{Bool, true, false}
 use native.Mathlib.Omega.{arith}
 use lib.Dec.{leb}
 use borrow.Author.Tests.{le-leb}
-use Rattle.tokenizer.specs.Front.{said_by}
+use Rattle.tokenizer.specs.Said.{said_by}
 use Rattle.tokenizer.specs.declared.token.Token.TheVariants as token
 use Rattle.parser_rules.specs.Ruling.{on_entry, on_outdent, on_indent, settled, after_entry, after_hint, on_token, on_end, ruling_of}
 use Rattle.parser_rules.specs.Judging.{sort_number, opened_line, awaited_number, awaited_line, outdent_by, item_by, key_by, settled_by, after_entry_by, after_hint_by, judged_by}

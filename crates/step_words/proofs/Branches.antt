@@ -5,7 +5,7 @@ use mathlib.Core.List.{List}
 use mathlib.Core.Bool.{true, false}
 use lib.ListN.{get_or}
 use Rattle.text.proofs.Cases.{by_bool, clash}
-use Rattle.tokenizer.specs.declared.front.Said.{Said}
+use Rattle.tokenizer.specs.declared.said.Said.{Said}
 use Rattle.tokenizer.specs.declared.front.Advanced.{Advanced}
 use Rattle.tokenizer_rows.specs.Rows.{row_by}
 use Rattle.tokenizer_words.specs.Words.{pasted_in}

@@ -12,8 +12,9 @@ use borrow.Author.Tests.{ltb-true}
 use Rattle.text.proofs.Cases.{by_bool}
 use Rattle.tokenizer.specs.Token.{bare, token_values, Values, values_of}
 use Rattle.tokenizer.specs.Step.{no_part, fit}
-use Rattle.tokenizer.specs.Front.{front_of, said_by, ahead_of}
-use Rattle.tokenizer.specs.declared.front.Said.{Said}
+use Rattle.tokenizer.specs.Said.{said_by}
+use Rattle.tokenizer.specs.Front.{front_of, ahead_of}
+use Rattle.tokenizer.specs.declared.said.Said.{Said}
 use Rattle.tokenizer.specs.declared.front.Advanced.{Advanced}
 use Rattle.tokenizer_rules.specs.declared.plan.Change.TheVariants as moves
 use Rattle.tokenizer.proofs.Fitness.{fitness}
@@ -117,7 +118,7 @@ module _ (d w : List ℕ) (l : length d ≤ 16777216) (h : 137 ≤ length w) (f 
         }
     comes (kept.Token t) n e =
         let q : came_in Parser d w ≡ record { said = said_by (token_values t); front = front_of (state_in w); change = moves.Keep; indent = no_part } =
-        unfold came_in kept_number in rw (word _ 0 e, word _ 1 e, word _ 2 e, word _ 3 e, word _ 4 e, word _ 5 e, not-0 t, not-11 t)
+        unfold came_in kept_number in rw (word _ 0 e, not-0 t, not-11 t, e)
         (ap (λ v. record { said = said_by v; front = front_of (state_in w); change = moves.Keep; indent = no_part }) (bare-row (token_values t) n)) in
         record {
           said = ap (λ (m : Advanced). m.said) q;

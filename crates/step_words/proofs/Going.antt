@@ -12,7 +12,7 @@ use lib.ListN.{length, drop, get_or}
 use borrow.Author.Tests.{eq-eqb, ne_eqb, eqb-true}
 use Rattle.text.proofs.Cases.{by_bool, clash}
 use Rattle.tokenizer.specs.Step.{fit}
-use Rattle.tokenizer.specs.Front.{said_by}
+use Rattle.tokenizer.specs.Said.{said_by}
 use Rattle.tokenizer.specs.declared.state.State.{State as Tokenizer}
 use Rattle.parser_rules.specs.Ruling.{ruling_of}
 use Rattle.parser_rules.specs.Judging.{sort_number, opened_line, awaited_number, awaited_line, judged_by}

@@ -8,7 +8,7 @@ use lib.Dec.{eqb, leb, ltb}
 use lib.ListN.{get_or}
 use borrow.Author.Tests.{ltb-true, leb-false}
 use Rattle.text.proofs.Cases.{by_bool, on-cond, clash}
-use Rattle.tokenizer.specs.declared.front.Said.{Said}
+use Rattle.tokenizer.specs.declared.said.Said.{Said}
 use Rattle.parser_rules.specs.Judging.{outdent_by, item_by, key_by, settled_by, after_entry_by, after_hint_by, judged_by}
 use Rattle.parser_rules.specs.declared.judging.Judged.{Judged}
 use Rattle.parser_rules.specs.declared.judging.Judged.TheVariants.{

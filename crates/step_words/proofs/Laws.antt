@@ -13,11 +13,13 @@ use lib.Seq.{drop-length}
 use borrow.Author.Tests.{ne_eqb, le-leb}
 use Rattle.text.proofs.Cases.{by_bool, clash}
 use Rattle.tokenizer.specs.Step.{fit, step_of as token_step}
-use Rattle.tokenizer.specs.Front.{said_by, ahead_of}
+use Rattle.tokenizer.specs.Said.{said_by}
+use Rattle.tokenizer.specs.Front.{ahead_of}
 use Rattle.tokenizer.specs.Lists.{is_end}
-use Rattle.tokenizer.specs.declared.front.Said.{Said}
+use Rattle.tokenizer.specs.declared.said.Said.{Said}
 use Rattle.tokenizer.specs.declared.front.Advanced.{Advanced}
 use Rattle.tokenizer.specs.declared.state.State.{State as Tokenizer}
+use Rattle.tokenizer.proofs.Valued.{end-number}
 use Rattle.tokenizer.proofs.Advancing.{step-said, step-number}
 use Rattle.parser_rules.specs.Ruling.{ruling_of}
 use Rattle.parser_rules.specs.declared.ruling.Kept.{Kept}
@@ -36,7 +38,7 @@ use Rattle.step_words.specs.Stepping.{refused_in, kept_number, came_in, judged_i
 use Rattle.step_words.specs.Claims.{Whole, Reading, FreshReads, TokenizerSteps, ParserSteps}
 use Rattle.step_words.specs.declared.outcome.Outcome.{Outcome}
 use Rattle.step_words.specs.declared.step.Layer.TheVariants.{Tokenizer as Tokens, Parser as Parses}
-use Rattle.front_words.proofs.Fronts.{step-committed, end-number}
+use Rattle.front_words.proofs.Fronts.{step-committed}
 use Rattle.step_words.proofs.Rulings.{GoesOn, Fair, ruling-goes-on}
 use Rattle.step_words.proofs.Going.{stop_is, answer-is, words_are}
 use Rattle.step_words.proofs.Branches.{refused, goes, stopped, went_on}

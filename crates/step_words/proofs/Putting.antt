@@ -103,11 +103,9 @@ module _ (s : State) (t : Tokenizer) (r : List ℕ) (e : length t.indents ≡ 64
       → outcome_in o s.count (parser_words (moved s t) ++ r) ≡ parser_words (after_verdict s t x) ++ r
   unfolding outcome_in
   put_is o x m q h =
-      let n = s.count in
       let u = after_verdict s t x in
-      let v = parser_words (moved s t) ++ r in
-      let mid : middle_by o n ≡ middle_words u = middle_of o x m q in
-      let p : pasted_in (middle_words u) 137 v ≡ words_of t ++ (middle_words u ++ (section_words s.sections ++ r)) =
-      ap (pasted_in (middle_words u) 137) (all_words (moved s t) r e)
-      ∙ replaced (words_of t) (middle_words (moved s t)) (section_words s.sections ++ r) (words-137 t e) (middle-11 (moved s t)) (middle_words u) (middle-11 u) in
-      rw (mid, p, q) (section-put (words_of t) (middle_words u) r (words-137 t e) (middle-11 u) x.change s.sections n f h ∙ back x)
+      let m₀ = middle_words (moved s t) in
+      let a = words-137 t e in
+      let l = middle-11 (moved s t) in
+      rw (middle_of o x m q, q, all_words (moved s t) r e, section-put (words_of t) m₀ r a l x.change s.sections s.count f h)
+      (replaced (words_of t) m₀ (section_words (sections_after x.change s.sections s.count) ++ r) a l (middle_words u) (middle-11 u) ∙ back x)

@@ -4,7 +4,7 @@ use Rattle.std.specs.Prelude.{ℕ, ◌≤◌, ◌≡◌, List, ◌++◌, true, c
 use Rattle.text.specs.Numbers.{max_document}
 use Rattle.tokenizer.specs.Token.{values_of}
 use Rattle.tokenizer.specs.Step.{fit, step_of as token_step}
-use Rattle.tokenizer.specs.Front.{said_by}
+use Rattle.tokenizer.specs.Said.{said_by}
 use Rattle.tokenizer.specs.Lists.{is_end}
 use Rattle.parser.specs.Step.{step_of, fresh}
 use Rattle.parser.specs.declared.state.State.{State}

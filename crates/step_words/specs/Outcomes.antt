@@ -2,8 +2,8 @@
 use Rattle.std.specs.Prelude.{ℕ, ◌+◌, ◌*◌, List, [], ◌∷◌, ◌++◌, true, false, cond, eqb, set}
 use Rattle.text.specs.Numbers.{missing_multiline, unfit_state, number_of}
 use Rattle.tokenizer.specs.Token.{bare, refusal_number}
-use Rattle.tokenizer.specs.Front.{said_by}
-use Rattle.tokenizer.specs.declared.front.Said.{Said}
+use Rattle.tokenizer.specs.Said.{said_by}
+use Rattle.tokenizer.specs.declared.said.Said.{Said}
 use Rattle.parser_rules.specs.declared.judging.Judged.{Judged}
 use Rattle.parser_rules.specs.declared.judging.Judged.TheVariants.{
   GivesOn,
@@ -83,4 +83,4 @@ section_put Close n w = w
 
 -- the words with what a judgement leaves
 unfoldable pub outcome_in : Outcome → ℕ → List ℕ → List ℕ
-outcome_in o n w = section_put o.change n (pasted_in (middle_by o n) 137 w)
+outcome_in o n w = pasted_in (middle_by o n) 137 (section_put o.change n w)

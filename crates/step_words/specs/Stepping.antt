@@ -1,16 +1,17 @@
 -- Intermediate, tied to the law by proofs/Going: one step of a state in words, in place. Of the words of a fit state it is the
 -- step of specs/Step, the tokenizer's or the parser's; of any others it is stated too, so that it asks nothing.
-use Rattle.std.specs.Prelude.{ℕ, zero, suc, ◌+◌, ◌*◌, List, Bool, false, cond, ◌||◌, eqb, leb, ltb, get_or}
+use Rattle.std.specs.Prelude.{ℕ, zero, suc, ◌+◌, ◌*◌, List, Bool, false, cond, ◌||◌, eqb, leb, ltb, get_or, take, drop}
 use Rattle.tokenizer.specs.Token.{bare}
 use Rattle.tokenizer.specs.Step.{no_part}
-use Rattle.tokenizer.specs.Front.{front_of, said_by, ahead_of}
-use Rattle.tokenizer.specs.declared.front.Said.{Said}
+use Rattle.tokenizer.specs.Said.{said_by}
+use Rattle.tokenizer.specs.Front.{front_of, ahead_of}
+use Rattle.tokenizer.specs.declared.said.Said.{Said}
 use Rattle.tokenizer.specs.declared.front.Advanced.{Advanced}
 use Rattle.tokenizer_rules.specs.declared.plan.Change.TheVariants.{Keep}
 use Rattle.parser_rules.specs.Judging.{judged_by}
 use Rattle.parser_rules.specs.declared.judging.Judged.{Judged}
 use Rattle.parser_rules.specs.declared.judging.Judged.TheVariants.{GivesOn, End}
-use Rattle.tokenizer_rows.specs.Rows.{row_by}
+use Rattle.tokenizer_rows.specs.Rows.{row_by, said_in}
 use Rattle.tokenizer_words.specs.Words.{pasted_in, state_in}
 use Rattle.front_words.specs.Fronts.{committed}
 use Rattle.step_words.specs.Outcomes.{nothing, outcome_by, outcome_in}
@@ -30,9 +31,7 @@ kept_number Parser w = get_or w 140 0
 
 -- what was kept, as what a step says: 11 is End
 abbrev pub kept_said : List ℕ → Said
-kept_said w =
-    cond (eqb (get_or w 140 0) 11) nothing
-    (record { number = get_or w 140 0; line = get_or w 141 0; start = get_or w 142 0; end = get_or w 143 0; from = get_or w 144 0; to = get_or w 145 0; opened = 0 })
+kept_said w = cond (eqb (get_or w 140 0) 11) nothing (said_in (take 6 (drop 140 w)))
 
 -- what was kept comes again and moves nothing, else the tokenizer's next
 unfoldable pub came_in : Layer → List ℕ → List ℕ → Advanced

@@ -1,13 +1,12 @@
 // What a judgement of the parser's leaves, and its words.
 ghost use Rattle.std.specs.Prelude.{◌≡◌, ◌≤◌, get_or};
-ghost use Rattle.tokenizer.specs.Token.{bare};
-ghost use Rattle.tokenizer.specs.Front.{said_by};
-ghost use Rattle.parser.specs.Step.{ChangeFits, count_after};
+ghost use Rattle.parser.specs.Step.{ChangeFits};
 ghost use Rattle.step_words.specs.Stepping.{innermost_at, opened_at};
-ghost use Rattle.step_words.specs.Outcomes.{carrying, given, denied, kept_by, outcome_by, section_put, outcome_in};
+ghost use Rattle.step_words.specs.Outcomes.{carrying, given, denied, kept_by, outcome_by, outcome_in};
 
 use parser_rules::{Change, Judged, Sort};
 use parser_words::sort_word;
+use text::Refusal;
 use tokenizer::Said;
 use tokenizer_words::{flag_of, paste};
 
@@ -22,33 +21,11 @@ pub(crate) struct Outcome {
     pub(crate) change: Change,
 }
 
-pub(crate) fn say(number: usize, line: usize) -> Said
-    ensures { result ≡ said_by (bare number line) }
-{
-    Said {
-        number,
-        line,
-        start: 0,
-        end: 0,
-        from: 0,
-        to: 0,
-        opened: 0,
-    }
-}
-
 // What is said, with the line that it carries.
 fn carry(opened: usize, s: Said) -> Said
     ensures { result ≡ carrying opened s }
 {
-    Said {
-        number: s.number,
-        line: s.line,
-        start: s.start,
-        end: s.end,
-        from: s.from,
-        to: s.to,
-        opened,
-    }
+    Said { opened, ..s }
 }
 
 fn gives(answer: Said, awaited: usize, line: usize, change: Change) -> Outcome
@@ -59,7 +36,7 @@ fn gives(answer: Said, awaited: usize, line: usize, change: Change) -> Outcome
         refused: false,
         awaited,
         line,
-        kept: say(0, 0),
+        kept: Said::bare(0, 0),
         change,
     }
 }
@@ -72,7 +49,7 @@ fn denies(answer: Said, awaited: usize, line: usize) -> Outcome
         refused: true,
         awaited,
         line,
-        kept: say(0, 0),
+        kept: Said::bare(0, 0),
         change: Change::Keep,
     }
 }
@@ -82,7 +59,7 @@ fn keep(s: Said) -> Said
     ensures { result ≡ kept_by s }
 {
     if s.number == 0 {
-        return say(11, 0);
+        return Said::bare(11, 0);
     }
     s
 }
@@ -112,7 +89,7 @@ pub(crate) fn outcome_of(v: Judged, s: Said, w: &[usize; 278]) -> Outcome
     match v {
         Judged::GivesOn => gives(s, awaited, line, Change::Keep),
         Judged::NoValue => Outcome {
-            answer: say(10, line),
+            answer: Said::bare(10, line),
             refused: false,
             awaited: 0,
             line: 0,
@@ -126,39 +103,10 @@ pub(crate) fn outcome_of(v: Judged, s: Said, w: &[usize; 278]) -> Outcome
         Judged::Hint => gives(s, 2, line, Change::Keep),
         Judged::Value => gives(s, 0, 0, Change::Keep),
         Judged::Passes => denies(s, awaited, line),
-        Judged::Refuses(r) => denies(say(256 + usize::from(r), s.line), 0, 0),
-        Judged::RefusesEntry => denies(say(260, line), 0, 0),
-        Judged::End => gives(say(0, 0), 0, 0, Change::Keep),
-        Judged::Unfit => denies(say(271, 0), 0, 0),
-    }
-}
-
-fn count_after(change: Change, count: usize) -> usize
-    requires { ChangeFits change count }
-    ensures { result ≡ count_after change count }
-{
-    match change {
-        Change::Keep => count,
-        Change::Fix(_) => count,
-        Change::Open(_) => count + 1,
-        Change::Close => count - 1,
-    }
-}
-
-fn put_section(change: Change, count: usize, w: &mut [usize; 278])
-    requires { ChangeFits change count }
-    ensures { w.new ≡ section_put change count w.old }
-{
-    match change {
-        Change::Keep => {}
-        Change::Fix(sort) => {
-            w[146 + 2 * count] = sort_word(sort);
-        }
-        Change::Open(line) => {
-            w[148 + 2 * count] = 0;
-            w[149 + 2 * count] = line;
-        }
-        Change::Close => {}
+        Judged::Refuses(r) => denies(Said::refused(r, s.line), 0, 0),
+        Judged::RefusesEntry => denies(Said::refused(Refusal::MissingMultiline, line), 0, 0),
+        Judged::End => gives(Said::bare(Said::END, 0), 0, 0, Change::Keep),
+        Judged::Unfit => denies(Said::refused(Refusal::UnfitState, 0), 0, 0),
     }
 }
 
@@ -167,7 +115,19 @@ pub(crate) fn put_outcome(o: Outcome, count: usize, w: &mut [usize; 278])
     requires { ChangeFits o.change count }
     ensures { w.new ≡ outcome_in o count w.old }
 {
-    let change = o.change;
+    let after = match o.change {
+        Change::Keep => count,
+        Change::Fix(sort) => {
+            w[146 + 2 * count] = sort_word(sort);
+            count
+        }
+        Change::Open(line) => {
+            w[148 + 2 * count] = 0;
+            w[149 + 2 * count] = line;
+            count + 1
+        }
+        Change::Close => count - 1,
+    };
     let k = o.kept;
     let middle = [
         flag_of(o.refused),
@@ -180,8 +140,7 @@ pub(crate) fn put_outcome(o: Outcome, count: usize, w: &mut [usize; 278])
         k.from,
         k.to,
         k.opened,
-        count_after(change, count),
+        after,
     ];
     paste(&middle, 137, w);
-    put_section(change, count, w);
 }

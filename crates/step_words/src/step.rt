@@ -14,16 +14,17 @@ ghost use Rattle.step_words.specs.Stepping.{
   row_in,
 };
 
-use crate::outcome::{Outcome, innermost_at, outcome_of, put_outcome, say};
-use front_words::{commit, front_in, inner_in};
+use crate::outcome::{Outcome, innermost_at, outcome_of, put_outcome};
+use front_words::{commit, inner_in};
 use parser_rules::{Judged, judge};
 use text::Part;
 use tokenizer::{Advanced, Said, advance};
-use tokenizer_rows::said_row;
+use tokenizer_rows::{said_in, said_row};
 use tokenizer_rules::Change;
-use tokenizer_words::paste;
+use tokenizer_words::{front_in, paste};
 
-// Whose step it is: the tokenizer's, of the first 137 words, or the parser's.
+// Whose step it is: the tokenizer's, of the first 137 words, or the parser's. An enum that is asked in four places, no
+// type parameter: the plan of a step is large, and is compiled once.
 #[derive(Clone, Copy)]
 pub enum Layer {
     Tokenizer,
@@ -55,17 +56,9 @@ fn kept_said(w: &[usize; 278]) -> Said
     ensures { result ≡ kept_said w.now }
 {
     if w[140] == 11 {
-        return say(0, 0);
+        return Said::bare(0, 0);
     }
-    Said {
-        number: w[140],
-        line: w[141],
-        start: w[142],
-        end: w[143],
-        from: w[144],
-        to: w[145],
-        opened: 0,
-    }
+    said_in(&w[140..146])
 }
 
 // What was kept comes again and moves nothing, else the tokenizer's next.
@@ -112,10 +105,11 @@ fn judged(layer: Layer, number: usize, w: &[usize; 278]) -> Judged
 pub fn stops(number: usize) -> bool
     ensures { result ≡ stops_at number }
 {
-    (number == 0) | (number == 271)
+    (number == Said::END) | (number == Said::UNFIT)
 }
 
-// Writes what the parser leaves.
+// Writes what the parser leaves. What its change asks of the count is a clause here and there: a struct of the two,
+// which come from different places, would be made for this call alone.
 fn leave(layer: Layer, o: Outcome, count: usize, w: &mut [usize; 278])
     requires { ChangeFits o.change count }
     ensures { w.new ≡ left_in layer o count w.old }
@@ -139,7 +133,7 @@ pub fn step_in(
     ensures rows_after { rows.new ≡ row_in (step_in layer doc.now w.old).said at rows.old }
 {
     if is_refused(layer, w) {
-        return 0;
+        return Said::END;
     }
     let m = came(doc, layer, w);
     let said = m.said;

@@ -2,11 +2,13 @@
 use Prim.Native.Nat.{◌*◌}
 use Prim.Native.Char.{code as byte}
 use mathlib.Core.Path.{◌≡◌, refl}
+use mathlib.Core.List.{[], ◌∷◌, map}
 use mathlib.Core.Bool.{true, false}
 use Rattle.text.specs.Ascii.{ascii}
-use Rattle.text.specs.Numbers.{max_document, max_open}
+use Rattle.text.specs.Numbers.{max_document, max_open, number_of}
 use Rattle.text.specs.Bytes.{is_blank, is_break, break_size, line_end, starts_with, part}
 use Rattle.text.specs.Trimming.{dropped, kept_end, trimmed}
+use Rattle.text.specs.declared.refusals.Refusal.TheVariants as refusal
 use Rattle.text.specs.declared.trimming.Dropped.TheVariants.{Blanks, BlanksAndBreaks}
 
 -- 16 MiB, and 64 sections
@@ -15,6 +17,19 @@ limit = refl
 
 sections : max_open ≡ 64
 sections = refl
+
+-- the numbers, by the places where they are checked: a line each for the tokenizer, the parser and unescape's text, and
+-- one for every entry, unescape's entry and output, and a step's entry
+numbers : map number_of (
+    refusal.InvalidUtf8 ∷ refusal.CharactersAfterQuotes ∷ refusal.TooManyOpen
+    ∷ refusal.MissingMultiline ∷ refusal.UnexpectedKey ∷ refusal.UnexpectedItem ∷ refusal.UnexpectedIndent
+    ∷ refusal.InvalidEscape ∷ refusal.EscapeAtEnd ∷ refusal.ExtraCharacters ∷ refusal.UnclosedQuotes
+    ∷ refusal.TooLong ∷ refusal.UnfitToken ∷ refusal.ShortBuffer ∷ refusal.UnfitState ∷ [])
+    ≡ 1 ∷ 2 ∷ 3
+    ∷ 4 ∷ 5 ∷ 6 ∷ 7
+    ∷ 8 ∷ 9 ∷ 10 ∷ 11
+    ∷ 12 ∷ 13 ∷ 14 ∷ 15 ∷ []
+numbers = refl
 
 -- a tab is a blank
 tab : is_blank (byte "\t") ≡ true

@@ -10,40 +10,12 @@ use Rattle.text.specs.Numbers.{number_of}
 use Rattle.text.specs.Refusals.{by_number, RefusalsBack, NumbersBack}
 use Rattle.text.specs.declared.refusals.NoRefusal.{NoRefusal}
 use Rattle.text.specs.declared.refusals.Refusal.{Refusal}
-use Rattle.text.specs.declared.refusals.Refusal.TheVariants.{
-  InvalidUtf8,
-  CharactersAfterQuotes,
-  TooManyOpen,
-  MissingMultiline,
-  UnexpectedKey,
-  UnexpectedItem,
-  UnexpectedIndent,
-  InvalidEscape,
-  EscapeAtEnd,
-  ExtraCharacters,
-  UnclosedQuotes,
-  TooLong,
-  UnfitToken,
-  ShortBuffer,
-  UnfitState,
-}
+use Rattle.text.specs.declared.refusals.Refusal.TheVariants as refusal
 
+-- the last line is checked at each of the fourteen others
 pub refusals-back : RefusalsBack
-refusals-back InvalidUtf8 = refl
-refusals-back CharactersAfterQuotes = refl
-refusals-back TooManyOpen = refl
-refusals-back MissingMultiline = refl
-refusals-back UnexpectedKey = refl
-refusals-back UnexpectedItem = refl
-refusals-back UnexpectedIndent = refl
-refusals-back InvalidEscape = refl
-refusals-back EscapeAtEnd = refl
-refusals-back ExtraCharacters = refl
-refusals-back UnclosedQuotes = refl
-refusals-back TooLong = refl
-refusals-back UnfitToken = refl
-refusals-back ShortBuffer = refl
-refusals-back UnfitState = refl
+refusals-back refusal.InvalidUtf8 = refl
+refusals-back r = refl
 
 -- the refusals of a list have the numbers of their places, from i on
 abbrev Placed : ℕ → List (Result Refusal NoRefusal) → Type 0

@@ -2,23 +2,7 @@
 use Rattle.std.specs.Prelude.{ℕ}
 use Rattle.text.specs.declared.refusals.Refusal.{Refusal}
 use Rattle.text.specs.declared.refusals.SyntaxError.{SyntaxError}
-use Rattle.text.specs.declared.refusals.Refusal.TheVariants.{
-  InvalidUtf8,
-  CharactersAfterQuotes,
-  TooManyOpen,
-  MissingMultiline,
-  UnexpectedKey,
-  UnexpectedItem,
-  UnexpectedIndent,
-  InvalidEscape,
-  EscapeAtEnd,
-  ExtraCharacters,
-  UnclosedQuotes,
-  TooLong,
-  UnfitToken,
-  ShortBuffer,
-  UnfitState,
-}
+use Rattle.text.specs.declared.refusals.Refusal.TheVariants as refusal
 
 -- the longest document, in bytes
 abbrev pub max_document : ℕ
@@ -27,29 +11,6 @@ max_document = 16_777_216
 -- the most sections that are open at once, the top level apart
 abbrev pub max_open : ℕ
 max_open = 64
-
--- the number of a refusal: the tokenizer's, the parser's and unescape's, then those of every entry, of unescape's entry and
--- its output, and of a step's entry
-abbrev pub number_of : Refusal → ℕ
-number_of InvalidUtf8 = 1
-number_of CharactersAfterQuotes = 2
-number_of TooManyOpen = 3
-number_of MissingMultiline = 4
-number_of UnexpectedKey = 5
-number_of UnexpectedItem = 6
-number_of UnexpectedIndent = 7
-number_of InvalidEscape = 8
-number_of EscapeAtEnd = 9
-number_of ExtraCharacters = 10
-number_of UnclosedQuotes = 11
-number_of TooLong = 12
-number_of UnfitToken = 13
-number_of ShortBuffer = 14
-number_of UnfitState = 15
-
--- a refusal told of line l
-abbrev pub error : Refusal → ℕ → SyntaxError
-error r l = record { refusal = r; line = l }
 
 -- tokenizer
 abbrev pub invalid_utf8 : ℕ
@@ -102,3 +63,25 @@ short_buffer = 14
 -- step entry
 abbrev pub unfit_state : ℕ
 unfit_state = 15
+
+-- the number of a refusal
+abbrev pub number_of : Refusal → ℕ
+number_of refusal.InvalidUtf8 = invalid_utf8
+number_of refusal.CharactersAfterQuotes = characters_after_quotes
+number_of refusal.TooManyOpen = too_many_open
+number_of refusal.MissingMultiline = missing_multiline
+number_of refusal.UnexpectedKey = unexpected_key
+number_of refusal.UnexpectedItem = unexpected_item
+number_of refusal.UnexpectedIndent = unexpected_indent
+number_of refusal.InvalidEscape = invalid_escape
+number_of refusal.EscapeAtEnd = escape_at_end
+number_of refusal.ExtraCharacters = extra_characters
+number_of refusal.UnclosedQuotes = unclosed_quotes
+number_of refusal.TooLong = too_long
+number_of refusal.UnfitToken = unfit_token
+number_of refusal.ShortBuffer = short_buffer
+number_of refusal.UnfitState = unfit_state
+
+-- a refusal told of line l
+abbrev pub error : Refusal → ℕ → SyntaxError
+error r l = record { refusal = r; line = l }

@@ -3,43 +3,27 @@ use Rattle.std.specs.Prelude.{ℕ, ◌≡◌, List, [], ◌∷◌, Result, Ok, E
 use Rattle.text.specs.Numbers.{number_of}
 use Rattle.text.specs.declared.refusals.NoRefusal.{NoRefusal}
 use Rattle.text.specs.declared.refusals.Refusal.{Refusal}
-use Rattle.text.specs.declared.refusals.Refusal.TheVariants.{
-  InvalidUtf8,
-  CharactersAfterQuotes,
-  TooManyOpen,
-  MissingMultiline,
-  UnexpectedKey,
-  UnexpectedItem,
-  UnexpectedIndent,
-  InvalidEscape,
-  EscapeAtEnd,
-  ExtraCharacters,
-  UnclosedQuotes,
-  TooLong,
-  UnfitToken,
-  ShortBuffer,
-  UnfitState,
-}
+use Rattle.text.specs.declared.refusals.Refusal.TheVariants as refusal
 
 -- by their numbers, from 0 on
 abbrev pub by_number : NoRefusal → List (Result Refusal NoRefusal)
 by_number none =
     Err none
-    ∷ Ok InvalidUtf8
-    ∷ Ok CharactersAfterQuotes
-    ∷ Ok TooManyOpen
-    ∷ Ok MissingMultiline
-    ∷ Ok UnexpectedKey
-    ∷ Ok UnexpectedItem
-    ∷ Ok UnexpectedIndent
-    ∷ Ok InvalidEscape
-    ∷ Ok EscapeAtEnd
-    ∷ Ok ExtraCharacters
-    ∷ Ok UnclosedQuotes
-    ∷ Ok TooLong
-    ∷ Ok UnfitToken
-    ∷ Ok ShortBuffer
-    ∷ Ok UnfitState
+    ∷ Ok refusal.InvalidUtf8
+    ∷ Ok refusal.CharactersAfterQuotes
+    ∷ Ok refusal.TooManyOpen
+    ∷ Ok refusal.MissingMultiline
+    ∷ Ok refusal.UnexpectedKey
+    ∷ Ok refusal.UnexpectedItem
+    ∷ Ok refusal.UnexpectedIndent
+    ∷ Ok refusal.InvalidEscape
+    ∷ Ok refusal.EscapeAtEnd
+    ∷ Ok refusal.ExtraCharacters
+    ∷ Ok refusal.UnclosedQuotes
+    ∷ Ok refusal.TooLong
+    ∷ Ok refusal.UnfitToken
+    ∷ Ok refusal.ShortBuffer
+    ∷ Ok refusal.UnfitState
     ∷ []
 
 abbrev pub refusal_of : ℕ → Result Refusal NoRefusal

@@ -26,7 +26,8 @@ pub fn is_newline(b: u8) -> bool
     b == b'\r' || b == b'\n'
 }
 
-// The size of the line break that s begins with, 2 for CR LF; 0 where it begins with none.
+// The size of the line break that s begins with, 2 for CR LF; 0 where it begins with none: a length, which callers add
+// to a place.
 #[tactic(auto, using(crate::proofs::Front::unbroken, crate::proofs::Front::bare, crate::proofs::Front::broken))]
 pub fn newline_size(s: &[u8]) -> usize
     ensures { result ≡ break_size s.now }

@@ -49,8 +49,9 @@ pub fn leading(which: Dropped, s: &[u8]) -> usize
     spaces + which.before(&s[spaces..])
 }
 
-// The part of s without the dropped bytes at both ends; where all are dropped, the empty part at the start. Texts seldom begin
-// with eight spaces, so they are read one by one: with the eights, this would be too large to be compiled into the readers.
+// The part of s without the dropped bytes at both ends; where all are dropped, the empty part at the start. Texts
+// seldom begin with eight spaces, so they are read one by one: with the eights, this would be too large to be compiled
+// into the readers.
 #[tactic(auto, unfolding(crate::specs::Trimming::trimmed), using(crate::proofs::Ends::kept))]
 pub fn trim(which: Dropped, s: &[u8]) -> Part
     ensures { result ≡ trimmed (dropped which) s.now }

@@ -1,16 +1,15 @@
 -- A text compared piece by piece: a piece that differs decides, and after one that is the same the others decide of the bytes
 -- that are left.
-use Prim.Native.Nat.{ℕ, suc, ◌-◌}
+use Prim.Native.Nat.{ℕ, suc}
 use native.Mathlib.Omega.{arith}
 use mathlib.Core.Path.{◌≡◌, refl, sym, ◌∙◌}
 use mathlib.Core.List.{List, [], ◌∷◌, ◌++◌}
 use mathlib.Core.Bool.{Bool, true, false, ◌&&◌, and-false}
 use lib.Dec.{eqb, ltb}
-use lib.ListN.{length, take, drop}
+use lib.ListN.{length, drop}
 use borrow.Author.Tests.{ne_eqb}
 use Rattle.std.specs.Prelude.{Result, Ok, Err, is_ok}
 use Rattle.text.specs.Bytes.{starts_with, is_same}
-use Rattle.text.specs.declared.bytes.Part.{Part}
 use Rattle.text.specs.declared.refusals.SyntaxError.{SyntaxError}
 use Rattle.text.proofs.Cases.{by_bool, clash}
 use Rattle.utf8.specs.Utf8.{utf8}
@@ -23,8 +22,8 @@ use Rattle.unescape_pieces.specs.declared.cursor.Bytes.{Bytes}
 use Rattle.unescape_pieces.specs.declared.cursor.Cursor.{Cursor}
 use Rattle.unescape_pieces.specs.declared.pieces.Spot.{Spot}
 use Rattle.unescape_pieces.specs.declared.start.Style.{Style}
-use Rattle.unescape_pieces.specs.declared.start.Start.TheVariants.{Plain, Pieces}
-use Rattle.unescape_pieces.proofs.Starts.{part-means, pieces-mean, pieces-lie}
+use Rattle.unescape_pieces.specs.declared.start.Start.TheVariants.{Pieces}
+use Rattle.unescape_pieces.proofs.Starts.{pieces-mean, pieces-lie}
 use Rattle.unescape_pieces.proofs.Ends.{Ends, pieces_end}
 use Rattle.unescape_source.specs.Source.{source_of, meaning_in, sound, source_in}
 use Rattle.unescape_source.specs.declared.source.Source.{Source}
@@ -72,10 +71,6 @@ no_part k (bytes l) s w x = refl
 no_part k (refused f) s w x = refl
 
 module _ (style : Style) (s indent wanted : List ℕ) where
-  pub plain-meant : {p : Part} → start_of style s ≡ Plain p
-      → is_same (take (p.end - p.start) (drop p.start s)) wanted ≡ is_text (text_by (meaning style s indent) 0 s) wanted
-  plain-meant q = rw (part-means style s indent q)
-
   pub pieces-meant : {n : ℕ} {spot : Spot} → start_of style s ≡ Pieces n spot
       → is_written (meaning_from spot indent (drop n s) n) wanted ≡ is_text (text_by (meaning style s indent) 0 s) wanted
   pieces-meant {n} {spot} q =

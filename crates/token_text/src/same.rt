@@ -10,27 +10,25 @@ use unescape_pieces::{Cursor, Start, Style, start_of};
 use unescape_source::{source_in, source_of};
 
 // Whether what is written from a cursor on is the wanted bytes. The first piece that differs decides.
-fn is_written(mut cursor: Cursor, wanted: &[u8]) -> bool
+fn is_written(cursor: Cursor, wanted: &[u8]) -> bool
     ensures { result ≡ is_written (meaning_of cursor.entry) wanted.now }
 {
     let mut left = wanted;
-    loop {
-        let found = match cursor.next() {
-            Ok(found) => found,
-            Err(_) => return false,
+    for piece in cursor {
+        let Ok(found) = piece else {
+            return false;
         };
-        let Some(piece) = found else {
-            return left.is_empty();
-        };
-        let bytes = piece.as_slice();
+        let bytes = found.as_slice();
         if !text::starts_with(left, bytes) {
             return false;
         }
         left = &left[bytes.len()..];
     }
+    left.is_empty()
 }
 
 // Whether a text, as it is read, comes to the wanted bytes.
+#[tactic(auto, using(unescape_pieces::proofs::Starts::begun_law))]
 fn is_meant(style: Style, text: &[u8], indent: &[u8], wanted: &[u8]) -> bool
     ensures { result ≡ is_text (text_by (meaning style text.now indent.now) 0 text.now) wanted.now }
 {
@@ -48,23 +46,18 @@ fn is_meant(style: Style, text: &[u8], indent: &[u8], wanted: &[u8]) -> bool
     }
 }
 
-// Whether a token's text comes to the wanted bytes; one that is refused comes to none. Most texts differ, and then nothing
-// else is asked of them: what 12 and 13 ask is tested last.
+// Whether a token's text comes to the wanted bytes; one that is refused comes to none. Most texts differ, and then
+// nothing else is asked of them: what 12 and 13 ask is tested last.
 pub fn is_text(t: Token, doc: &[u8], wanted: &[u8]) -> bool
     ensures { result ≡ is_text (text_in doc.now t) wanted.now }
 {
     let w = source_of(t);
-    let style = w.style;
-    let text = w.text;
-    let indent = w.indent;
-    if !(part_fits(text, doc.len()) & part_fits(indent, doc.len())) {
+    if !(part_fits(w.text, doc.len()) & part_fits(w.indent, doc.len())) {
         return false;
     }
-    let from = text.start;
-    let to = text.end;
-    let indent_from = indent.start;
-    let indent_to = indent.end;
-    if !is_meant(style, &doc[from..to], &doc[indent_from..indent_to], wanted) {
+    let text = &doc[w.text.start..w.text.end];
+    let indent = &doc[w.indent.start..w.indent.end];
+    if !is_meant(w.style, text, indent, wanted) {
         return false;
     }
     source_in(t, doc).is_ok()

@@ -1,45 +1,29 @@
 -- The step without the record of open indentations: what its test tells, and that of a fit state it is the step.
-use Rattle.std.specs.Prelude.{Option, Some, None}
 use Prim.Native.Nat.{ℕ, ◌+◌, ◌^◌, ◌≤◌, ◌<◌}
-use mathlib.Core.Path.{◌≡◌}
+use mathlib.Core.Path.{◌≡◌, ap, ◌∙◌}
 use mathlib.Core.List.{List}
-use mathlib.Core.Bool.{true, false, ◌&&◌}
+use mathlib.Core.Bool.{true, false}
 use native.Mathlib.Omega.{arith}
 use lib.Dec.{leb, ltb}
 use lib.ListN.{length, drop, length-drop}
-use borrow.Author.Tests.{le-leb, lt-leb, leb-true, lt-ltb, le-ltb}
-use Rattle.text.specs.Trimming.{dropped}
+use borrow.Author.Tests.{le-leb, leb-true, lt-ltb, le-ltb}
 use Rattle.text.specs.declared.bytes.Part.{Part}
-use Rattle.text.specs.declared.trimming.Dropped.TheVariants.{Blanks}
+use Rattle.text.specs.declared.refusals.Refusal.TheVariants.{TooLong, UnfitState}
 use Rattle.text.proofs.Cases.{and_left, and_right}
-use Rattle.std.proofs.lemmas.List.Sums.{prefix_len-le-length}
-use Rattle.tokenizer_scans.specs.Scans.{blanks}
 use Rattle.tokenizer_rules.specs.Plan.{plan_at}
 use Rattle.tokenizer_rules.specs.declared.plan.Plan.{Plan}
 use Rattle.tokenizer.specs.Token.{values_of}
-use Rattle.tokenizer.specs.Step.{
-  indent_of,
-  inner_of,
-  indents_after,
-  depth_after,
-  reach,
-  answer_of,
-  plan_with,
-  after_plan,
-  step_with,
-  step_rule,
-  fit_part,
-  fit_held,
-  fit,
-  step_of,
-}
-use Rattle.tokenizer.specs.Front.{front_of, said_by, advance_with, advance_rule, near, staying, advanced_of}
+use Rattle.tokenizer.specs.Step.{inner_of, indents_after, depth_after, reach, plan_with, after_plan, step_with, step_rule, fit_part, fit_held, fit, step_of}
+use Rattle.tokenizer.specs.Front.{front_of, front_fit, advance_with, advance_rule, near, staying, advanced_of, state_by}
 use Rattle.tokenizer.specs.declared.state.State.{State}
 use Rattle.tokenizer.specs.declared.front.Front.{Front}
 use Rattle.tokenizer.proofs.Bounds.{plan-bounded}
-use Rattle.tokenizer.proofs.Fitness.{fitness, part-fit, inner-fit}
-use Rattle.tokenizer.proofs.Numbers.{plan-number, ruled-number}
+use Rattle.tokenizer.proofs.Fitness.{fitness, inner-fit}
+use Rattle.tokenizer.proofs.Numbers.{ruled-number}
 use Rattle.tokenizer.proofs.Steps.{ruled}
+use Rattle.tokenizer.proofs.Valued.{back}
+use Rattle.tokenizer.specs.Said.{said_by, answer_by}
+use Rattle.tokenizer.specs.declared.state.Step.{Step}
 
 -- what a step uses, test by test
 pub record Nearness (n : ℕ) (f : Front) (inner : Part) : Type 0 where
@@ -50,62 +34,48 @@ pub record Nearness (n : ℕ) (f : Front) (inner : Part) : Type 0 where
   pub innermost : fit_part n inner ≡ true
 
 pub nearness : (n : ℕ) (f : Front) (inner : Part) → near n f inner ≡ true → Nearness n f inner
-unfolding near
+unfolding near front_fit
 nearness n f inner e =
-    let e₁ = and_right (leb f.place n) _ e in
+    let e₀ = and_left _ (fit_part n inner) e in
+    let e₁ = and_right (leb f.place n) _ e₀ in
     let e₂ = and_right (ltb 0 f.line) _ e₁ in
     let e₃ = and_right (leb f.line (f.place + 1)) _ e₂ in
     let e₄ = and_right (fit_held n f.held) _ e₃ in
     record {
-      place = leb-true f.place n (and_left (leb f.place n) _ e);
+      place = leb-true f.place n (and_left (leb f.place n) _ e₀);
       line-high = leb-true f.line (f.place + 1) (and_left (leb f.line (f.place + 1)) _ e₂);
       held = and_left (fit_held n f.held) _ e₃;
-      depth = leb-true f.depth 64 (and_left (leb f.depth 64) _ e₄);
-      innermost = and_right (leb f.depth 64) _ e₄;
+      depth = leb-true f.depth 64 e₄;
+      innermost = and_right _ (fit_part n inner) e;
     }
 
--- the place decides, and then the rest
-pub place-past : (n : ℕ) (f : Front) (inner : Part) → n < f.place → near n f inner ≡ false
-unfolding near
-place-past n f inner h = rw (lt-leb f.place n h)
-
-pub place-within : (n : ℕ) (f : Front) (inner : Part) → f.place ≤ n
-    → near n f inner ≡ (ltb 0 f.line && (leb f.line (f.place + 1) && (fit_held n f.held && (leb f.depth 64 && fit_part n inner))))
-unfolding near
-place-within n f inner h = rw (le-leb f.place n h)
-
--- the step's indentation fits
-pub indent-near : (d : List ℕ) (f : Front) → f.place ≤ length d → fit_held (length d) f.held ≡ true
-    → fit_part (length d) (indent_of f.held f.place (drop f.place d)) ≡ true
-unfolding blanks
-indent-near d f h e = at f.held e
-  where
-    at : (x : Option Part) → fit_held (length d) x ≡ true → fit_part (length d) (indent_of x f.place (drop f.place d)) ≡ true
-    at None q =
-        let r = drop f.place d in
-        part-fit (length d) (record { start = f.place; end = f.place + blanks r }) (omega arith)
-        (omega (arith, h, prefix_len-le-length (dropped Blanks) r, length-drop f.place d))
-    at (Some p) q = q
-
 -- what a plan adds fits a machine word
-pub room-near : (d : List ℕ) (f : Front) (inner : Part) (i : Part) (x y : List ℕ) (k : ℕ) {p : Plan} → length d ≤ 16777216 → Nearness (length d) f inner
-    → p ≡ plan_at f.marks f.depth x y (drop f.place d) k
-    → (f.depth ≤ 64) × ((depth_after p.change f.depth ≤ 64) × ((f.place + p.pass < 2 ^ 64) × ((f.line + p.lines < 2 ^ 64)
-    × ((f.place + reach p.says < 2 ^ 64) × ((values_of (answer_of p.says f.line f.place i)).number < 2 ^ 64)))))
-room-near d f inner i x y k h n e =
+pub record Room (f : Front) (p : Plan) : Type 0 where
+  pub depth : f.depth ≤ 64
+  pub place : f.place + p.pass < 2 ^ 64
+  pub line : f.line + p.lines < 2 ^ 64
+  pub text : f.place + reach p.says < 2 ^ 64
+
+pub room : (d : List ℕ) (f : Front) (inner : Part) (x y : List ℕ) (k : ℕ) {p : Plan} → length d ≤ 16777216 → Nearness (length d) f inner
+    → p ≡ plan_at f.marks f.depth x y (drop f.place d) k → Room f p
+room d f inner x y k h n e =
     let b = rw (← e) at (plan-bounded f.marks f.depth x y (drop f.place d) k) in
     let l = length-drop f.place d in
-    let m = rw (← e) at (plan-number f.marks f.depth x y (drop f.place d) k f.line f.place i) in
     let o = n.place in
     let q = n.line-high in
-    (n.depth, (b.sections n.depth, (omega arith, (omega arith, (omega arith, omega arith)))))
+    record {
+      depth = n.depth;
+      place = omega arith;
+      line = omega arith;
+      text = omega arith;
+    }
 
 module _ (d : List ℕ) (f : Front) (inner : Part) where
-  pub over : 16777216 < length d → advanced_of d f inner ≡ staying f 12
+  pub over : 16777216 < length d → advanced_of d f inner ≡ staying f TooLong
   unfolding advanced_of
   over h = rw (lt-ltb 16777216 (length d) h)
 
-  pub far : length d ≤ 16777216 → near (length d) f inner ≡ false → advanced_of d f inner ≡ staying f 15
+  pub far : length d ≤ 16777216 → near (length d) f inner ≡ false → advanced_of d f inner ≡ staying f UnfitState
   unfolding advanced_of
   far h e = rw (le-ltb 16777216 (length d) h, e)
 
@@ -119,7 +89,7 @@ module _ (d : List ℕ) (s : State) (h : length d ≤ 16777216) (e : fit (length
   inner = inner_of s.indents s.depth
 
   pub is-near : near (length d) (front_of s) inner ≡ true
-  unfolding near
+  unfolding near front_fit
   is-near =
       let f = fitness (length d) s e in
       rw (
@@ -151,3 +121,13 @@ module _ (d : List ℕ) (s : State) (h : length d ≤ 16777216) (e : fit (length
   pub step-depth : depth_after (advanced_of d (front_of s) inner).change s.depth ≡ (step_of d s).state.depth
   unfolding advance_rule advance_with step_rule step_with plan_with after_plan
   step-depth = rw (advances d (front_of s) inner h is-near, ruled d s h e)
+
+  -- and so the whole step
+  pub step-state : state_by s (advanced_of d (front_of s) inner) ≡ (step_of d s).state
+  unfolding advance_rule advance_with step_rule step_with plan_with after_plan state_by
+  step-state = rw (advances d (front_of s) inner h is-near, ruled d s h e)
+
+  pub steps : Path (Step State) (record { answer = answer_by (advanced_of d (front_of s) inner).said; state = state_by s (advanced_of d (front_of s) inner) }) (step_of d s)
+  steps =
+      let a = ap answer_by step-said ∙ back (step_of d s).answer in
+      λ j. record { answer = a j; state = step-state j }

@@ -1,6 +1,6 @@
 -- What a plan counts lies within the rest that it was made for: the bytes that it passes, among them the text that it says, and
 -- the lines that it adds, of which each has a byte. And it opens no 65th section.
-use Prim.Native.Nat.{ℕ, suc, ◌+◌, ◌^◌, ◌≤◌, ◌<◌}
+use Prim.Native.Nat.{ℕ, suc, ◌+◌, ◌≤◌}
 use mathlib.Core.Path.{◌≡◌, ap}
 use mathlib.Core.List.{List, ◌∷◌}
 use mathlib.Core.Bool.{false}
@@ -23,8 +23,6 @@ use Rattle.tokenizer_rules.specs.declared.plan.Marks.{Marks}
 use Rattle.tokenizer_rules.specs.declared.plan.Says.{Says}
 use Rattle.tokenizer_rules.specs.declared.plan.Says.TheVariants.{Comment, MapKey, Value, MultilineHint, MultilineValue}
 use Rattle.tokenizer_rules.specs.declared.plan.Plan.{Plan}
-use Rattle.tokenizer.specs.declared.state.State.{State}
-use Rattle.tokenizer.proofs.Fitness.{Fitness}
 use Rattle.tokenizer_scans.proofs.Quotes.{plain-le, text_le, eq-le, hint-le}
 use Rattle.tokenizer_scans.proofs.Pieces.{extent-le, line_count-le}
 use Rattle.tokenizer_rules.proofs.PlanCases.{Cases, plan-cases}
@@ -100,17 +98,3 @@ module _ (m : Marks) (depth : ℕ) (inner indent rest : List ℕ) (k : ℕ) wher
 pub plan-bounded : (m : Marks) (depth : ℕ) (inner indent rest : List ℕ) (k : ℕ)
     → Bounded (length rest) depth (plan_at m depth inner indent rest k)
 plan-bounded m depth inner indent rest k = plan-cases m depth inner indent rest k (Bounded (length rest) depth) (bounds m depth inner indent rest k)
-
--- What a step adds in a fit state of a document within the limit fits a machine word.
-pub record Room (s : State) (p : Plan) : Type 0 where
-  pub sections : depth_after p.change s.depth ≤ 64
-  pub place : s.place + p.pass < 2 ^ 64
-  pub line : s.line + p.lines < 2 ^ 64
-  pub text : s.place + reach p.says < 2 ^ 64
-
-pub room : (d : List ℕ) (s : State) (inner indent : List ℕ) (k : ℕ) {p : Plan} → length d ≤ 16777216 → Fitness (length d) s
-    → p ≡ plan_at s.marks s.depth inner indent (drop s.place d) k → Room s p
-room d s inner indent k h f e =
-    let b = rw (← e) at (plan-bounded s.marks s.depth inner indent (drop s.place d) k) in
-    let l = length-drop s.place d in
-    record { sections = b.sections f.depth; place = omega arith; line = omega arith; text = omega arith }

@@ -2,19 +2,21 @@
 use Prim.Native.Nat.{ℕ, zero, suc, ◌+◌, ◌-◌, ◌≤◌, ◌<◌}
 use mathlib.Core.Path.{◌≡◌, refl, ◌∙◌}
 use mathlib.Core.List.{List}
-use mathlib.Core.Bool.{Bool, true, false, cond, ◌&&◌, and_comm, and-false, and-true}
-use native.Mathlib.Numerals.{add-one, sub-one}
+use mathlib.Core.Bool.{Bool, true, ◌&&◌, and_assoc, and_comm, and-true}
+use native.Mathlib.Numerals.{add-one}
 use native.Mathlib.Omega.{arith}
-use lib.Dec.{eqb, leb, ltb, eqb-suc-zero}
+use lib.Dec.{leb, ltb}
 use lib.ListN.{length, take, get_or}
 use lib.Seq.{take-suc}
 use Rattle.std.specs.List.{list_all}
 use Rattle.std.proofs.lemmas.List.Folds.{list_all-append}
-use borrow.Author.Tests.{le-leb, lt-leb, leb-true, lt-ltb, ltb-true}
+use borrow.Author.Tests.{le-leb, lt-leb, leb-true, leb-false, lt-ltb, ltb-true}
 use Rattle.text.specs.declared.bytes.Part.{Part}
-use Rattle.text.proofs.Cases.{and_left, and_right}
+use Rattle.text.proofs.Cases.{by_bool, and_left, and_right}
 use Rattle.tokenizer.specs.Step.{no_part, inner_of, fit_part, fit_held, fit_open, fit}
+use Rattle.tokenizer.specs.Front.{front_of, front_fit}
 use Rattle.tokenizer.specs.declared.state.State.{State}
+use Rattle.tokenizer.specs.declared.front.Front.{Front}
 
 -- a fit state of a document of n bytes, test by test
 pub record Fitness (n : ℕ) (s : State) : Type 0 where
@@ -41,6 +43,28 @@ fitness n s e =
       opens = and_right (leb s.depth 64) _ e₄;
     }
 
+leb-less : (l p : ℕ) → leb (l - 1) p ≡ leb l (p + 1)
+leb-less l p =
+    by_bool (leb l (p + 1)) (λ e. rw (e, le-leb (l - 1) p (omega (arith, leb-true l (p + 1) e))))
+    (λ e. rw (e, lt-leb (l - 1) p (omega (arith, leb-false l (p + 1) e))))
+
+-- what the front tells, and then the open indentations
+pub fit_parts : (n : ℕ) (s : State) → fit n s ≡ (front_fit n (front_of s) && fit_open n s.indents s.depth)
+unfolding fit front_fit
+fit_parts n s = simp and_assoc
+
+-- as the code tests it
+pub front_tests : (n : ℕ) (f : Front)
+    → (leb f.place n && ltb 0 f.line && leb (f.line - 1) f.place && fit_held n f.held && leb f.depth 64) ≡ front_fit n f
+unfolding front_fit
+front_tests n f = rw (leb-less f.line f.place) (simp and_assoc)
+
+pub front-depth : (n : ℕ) (f : Front) → front_fit n f ≡ true → f.depth ≤ 64
+unfolding front_fit
+front-depth n f e =
+    leb-true f.depth 64
+    (and_right (fit_held n f.held) _ (and_right (leb f.line (f.place + 1)) _ (and_right (ltb 0 f.line) _ (and_right (leb f.place n) _ e))))
+
 -- where all else fits, the open indentations decide
 pub open-decides : (n : ℕ) (s : State) → s.place ≤ n → 0 < s.line → s.line ≤ s.place + 1 → fit_held n s.held ≡ true → s.depth ≤ 64
     → fit n s ≡ fit_open n s.indents s.depth
@@ -64,11 +88,6 @@ unfolding fit_open
 inner-fit n indents zero e = part-fit n no_part (omega arith) (omega arith)
 inner-fit n indents (suc k) e = and_left (fit_part n (get_or indents k no_part)) _ e
 
--- the innermost open indentation is the last of the open ones
-pub inner_last : (indents : List Part) (depth : ℕ) → cond (eqb depth 0) no_part (get_or indents (depth - 1) no_part) ≡ inner_of indents depth
-inner_last indents zero = refl
-inner_last indents (suc k) = rw (eqb-suc-zero, sub-one)
-
 -- one more open indentation, tested after those before it
 pub open_more : (n : ℕ) (indents : List Part) (i : ℕ) {t u : Bool} → t ≡ fit_open n indents i → u ≡ fit_part n (get_or indents i no_part)
     → (t && u) ≡ fit_open n indents (i + 1)
@@ -82,25 +101,3 @@ all_open n indents zero h = refl
 all_open n indents (suc k) h =
     rw (take-suc indents k no_part h, list_all-append, all_open n indents k (omega arith), and-true)
     (rw add-one at (open_more n indents k refl refl))
-
--- one test that fails
-module _ (n : ℕ) (s : State) where
-  pub place-past : n < s.place → fit n s ≡ false
-  unfolding fit
-  place-past h = rw (lt-leb s.place n h)
-
-  pub line-zero : s.line ≡ 0 → fit n s ≡ false
-  unfolding fit
-  line-zero e = rw (e, and-false)
-
-  pub line-past : s.place + 1 < s.line → fit n s ≡ false
-  unfolding fit
-  line-past h = simp (lt-leb s.line (s.place + 1) h, and-false)
-
-  pub held-unfit : fit_held n s.held ≡ false → fit n s ≡ false
-  unfolding fit
-  held-unfit e = simp (e, and-false)
-
-  pub too-deep : 64 < s.depth → fit n s ≡ false
-  unfolding fit
-  too-deep h = simp (lt-leb s.depth 64 h, and-false)

@@ -71,19 +71,17 @@ module _ (n : ℕ) where
   open_after Close i is k e f = open-less is k f
   open_after Hold i is k e f = open-less is k f
 
-module _ (d : List ℕ) (s : State) where
-  -- the step's indentation fits
-  pub indent-fit : Fitness (length d) s → fit_part (length d) (indent_of s.held s.place (drop s.place d)) ≡ true
-  unfolding blanks
-  indent-fit f = at s.held f.held
-    where
-      at : (h : Option Part) → fit_held (length d) h ≡ true → fit_part (length d) (indent_of h s.place (drop s.place d)) ≡ true
-      at None e =
-          let r = drop s.place d in
-          part-fit (length d) (record { start = s.place; end = s.place + blanks r }) (omega arith)
-          (omega (arith, f.place, prefix_len-le-length (dropped Blanks) r, length-drop s.place d))
-      at (Some p) e = e
+-- the step's indentation fits
+pub indent-fit : (d : List ℕ) (place : ℕ) (h : Option Part) → place ≤ length d → fit_held (length d) h ≡ true
+    → fit_part (length d) (indent_of h place (drop place d)) ≡ true
+unfolding blanks
+indent-fit d place None e q =
+    let r = drop place d in
+    part-fit (length d) (record { start = place; end = place + blanks r }) (omega arith)
+    (omega (arith, e, prefix_len-le-length (dropped Blanks) r, length-drop place d))
+indent-fit d place (Some p) e q = q
 
+module _ (d : List ℕ) (s : State) where
   after-fit : (i : Part) (p : Plan) → Fitness (length d) s → fit_part (length d) i ≡ true → Bounded (length (drop s.place d)) s.depth p
       → Fitness (length d) (after_plan s i p)
   unfolding after_plan
@@ -100,4 +98,4 @@ module _ (d : List ℕ) (s : State) where
   unfolding step_rule step_with plan_with
   step-fit l e =
       let f = fitness (length d) s e in
-      rw (ruled d s l e) (is-fit (length d) _ (after-fit _ _ f (indent-fit f) (plan-bounded _ _ _ _ _ _)))
+      rw (ruled d s l e) (is-fit (length d) _ (after-fit _ _ f (indent-fit d s.place s.held f.place f.held) (plan-bounded _ _ _ _ _ _)))

@@ -1,25 +1,28 @@
 -- Intermediate: a step without the record of the open indentations. It is told the innermost one, and says what becomes
 -- of the record; it tests of a state only what it uses. proofs/Advancing shows that of a fit state it is the step.
 use Rattle.std.specs.Prelude.{ℕ, ◌+◌, List, Bool, cond, ◌&&◌, length, drop, leb, ltb}
-use Rattle.text.specs.Numbers.{max_document, max_open, too_long, unfit_state}
+use Rattle.std.specs.Prelude.{Some, Err}
+use Rattle.text.specs.Numbers.{max_document, max_open, error}
+use Rattle.text.specs.declared.refusals.Refusal.{Refusal}
+use Rattle.text.specs.declared.refusals.Refusal.TheVariants.{TooLong, UnfitState}
 use Rattle.text.specs.declared.bytes.Part.{Part}
 use Rattle.tokenizer_rules.specs.Plan.{plan_at}
 use Rattle.tokenizer_rules.specs.declared.plan.Change.TheVariants.{Keep}
 use Rattle.tokenizer_rules.specs.declared.plan.Plan.{Plan}
-use Rattle.tokenizer.specs.Token.{Values, bare, refusal_number, values_of}
-use Rattle.tokenizer.specs.Step.{bytes_of, no_part, inner_of, indent_of, size_of, depth_after, held_after, answer_of, fit_part, fit_held}
+use Rattle.tokenizer.specs.Step.{bytes_of, no_part, inner_of, indent_of, size_of, indents_after, depth_after, held_after, answer_of, fit_part, fit_held}
+use Rattle.tokenizer.specs.Token.{values_of}
+use Rattle.tokenizer.specs.Said.{said_by}
 use Rattle.tokenizer.specs.declared.state.State.{State}
 use Rattle.tokenizer.specs.declared.front.Front.{Front}
-use Rattle.tokenizer.specs.declared.front.Said.{Said}
 use Rattle.tokenizer.specs.declared.front.Advanced.{Advanced}
 
 -- a state but for the open indentations
 abbrev pub front_of : State → Front
 front_of s = record { place = s.place; line = s.line; marks = s.marks; held = s.held; depth = s.depth }
 
--- an answer's values
-abbrev pub said_by : Values → Said
-said_by v = record { number = v.number; line = v.line; start = v.start; end = v.end; from = v.from; to = v.to; opened = v.opened }
+-- it can be one of a document of n bytes
+unfoldable pub front_fit : ℕ → Front → Bool
+front_fit n f = leb f.place n && (ltb 0 f.line && (leb f.line (f.place + 1) && (fit_held n f.held && leb f.depth max_open)))
 
 abbrev pub front_after : Front → Part → Plan → Front
 front_after f i p = record {
@@ -49,18 +52,28 @@ advance_rule d f inner = advance_with d f inner (indent_of f.held f.place (drop 
 
 -- what a step uses of a state is fit: all but the open indentations below the innermost
 unfoldable pub near : ℕ → Front → Part → Bool
-near n f inner =
-    leb f.place n && (ltb 0 f.line && (leb f.line (f.place + 1) && (fit_held n f.held && (leb f.depth max_open && fit_part n inner))))
+near n f inner = front_fit n f && fit_part n inner
 
 -- a refusal that changes nothing
-abbrev pub staying : Front → ℕ → Advanced
-staying f n = record { said = said_by (bare (refusal_number n) 0); front = f; change = Keep; indent = no_part }
+abbrev pub staying : Front → Refusal → Advanced
+staying f r = record { said = said_by (values_of (Some (Err (error r 0)))); front = f; change = Keep; indent = no_part }
 
 -- 12, then 15, then the rules
 unfoldable pub advanced_of : List ℕ → Front → Part → Advanced
 advanced_of d f inner =
-    cond (ltb max_document (length d)) (staying f too_long) (cond (near (length d) f inner) (advance_rule d f inner) (staying f unfit_state))
+    cond (ltb max_document (length d)) (staying f TooLong) (cond (near (length d) f inner) (advance_rule d f inner) (staying f UnfitState))
 
 -- the same of a state
 abbrev pub ahead_of : List ℕ → State → Advanced
 ahead_of d s = advanced_of d (front_of s) (inner_of s.indents s.depth)
+
+-- the state with what a step leaves
+unfoldable pub state_by : State → Advanced → State
+state_by s m = record {
+  place = m.front.place;
+  line = m.front.line;
+  marks = m.front.marks;
+  held = m.front.held;
+  indents = indents_after m.change m.indent s.indents s.depth;
+  depth = m.front.depth;
+}

@@ -1,14 +1,28 @@
-// A step without the record of the open indentations: it is told the innermost one, and says what becomes of the record.
-ghost use Rattle.std.specs.Prelude.{◌≡◌, ◌+◌, ◌<◌, ◌≤◌, ◌^◌, length};
+// A step without the record of the open indentations: it is told the innermost one, and says what becomes of the
+// record.
+ghost use Rattle.std.specs.Prelude.{◌≡◌, true, ◌+◌, ◌-◌, ◌<◌, ◌≤◌, ◌^◌, length, drop};
 ghost use Rattle.text.specs.Bytes.{shifted_by};
-ghost use Rattle.text.specs.Numbers.{max_document, max_open, unfit_state};
-ghost use Rattle.tokenizer.specs.Token.{bare, with_text, values_of};
-ghost use Rattle.tokenizer.specs.Step.{answer_of, reach, depth_after};
-ghost use Rattle.tokenizer.specs.Front.{said_by, advanced_by, near, staying, advanced_of};
+ghost use Rattle.text.specs.Numbers.{max_open};
+ghost use Rattle.tokenizer_rules.specs.Plan.{plan_at};
+ghost use Rattle.tokenizer.specs.Step.{
+  indent_of,
+  size_of,
+  answer_of,
+  reach,
+  bytes_of,
+  depth_after,
+  held_after,
+  fit_part,
+  fit_held,
+};
+ghost use Rattle.tokenizer.specs.Token.{values_of};
+ghost use Rattle.tokenizer.specs.Said.{said_by};
+ghost use Rattle.tokenizer.specs.Front.{front_fit, advanced_by, near, staying, advanced_of};
 
-use crate::state::{State, depth_after, held_after, held_fits, indent_at, part_fits, planned};
-use text::Part;
-use tokenizer_rules::{Change, Marks, Plan, Says};
+use crate::said::Said;
+use crate::state::State;
+use text::{Dropped, Part, Refusal};
+use tokenizer_rules::{Change, Marks, Plan, Says, plan_at};
 
 // A state but for the open indentations.
 #[derive(Clone, Copy)]
@@ -20,19 +34,6 @@ pub struct Front {
     pub depth: usize,
 }
 
-// An answer in numbers: its kind, 0 for End, 256 and the number for a refusal; its line, its text and its indentation;
-// and the line that the parser adds to an Outdent, 0 else.
-#[derive(Clone, Copy)]
-pub struct Said {
-    pub number: usize,
-    pub line: usize,
-    pub start: usize,
-    pub end: usize,
-    pub from: usize,
-    pub to: usize,
-    pub opened: usize,
-}
-
 // What a step says, the front after it, and what becomes of the open indentations: where one opens, it is `indent`.
 #[derive(Clone, Copy)]
 pub struct Advanced {
@@ -42,73 +43,167 @@ pub struct Advanced {
     pub indent: Part,
 }
 
-fn say(number: usize, line: usize) -> Said
-    ensures { result ≡ said_by (bare number line) }
+// Whether p neither ends before it starts nor ends past n bytes.
+pub fn part_fits(p: Part, n: usize) -> bool
+    ensures { result ≡ fit_part n p }
 {
-    Said {
-        number,
-        line,
-        start: 0,
-        end: 0,
-        from: 0,
-        to: 0,
-        opened: 0,
+    p.start <= p.end && p.end <= n
+}
+
+// The same of what is held, if anything.
+pub fn held_fits(held: Option<Part>, n: usize) -> bool
+    ensures { result ≡ fit_held n held }
+{
+    match held {
+        None => true,
+        Some(p) => part_fits(p, n),
     }
 }
 
-fn say_text(number: usize, line: usize, place: usize, p: Part) -> Said
+impl Front {
+    // Whether it can be one of a document of n bytes. `&` is no jump, which `&&` would be.
+    #[tactic(auto, using(crate::proofs::Fitness::front_tests))]
+    pub fn fits(self, n: usize) -> bool
+        ensures { result ≡ front_fit n self }
+    {
+        (self.place <= n)
+            & (0 < self.line)
+            & (self.line.saturating_sub(1) <= self.place)
+            & held_fits(self.held, n)
+            & (self.depth <= State::MAX_OPEN)
+    }
+}
+
+// Rule 1: the indentation of a step, and how many bytes of it stand at the place.
+#[derive(Clone, Copy)]
+struct Indentation {
+    part: Part,
+    size: usize,
+}
+
+fn indent_at(held: Option<Part>, place: usize, rest: &[u8]) -> Indentation
+    requires { place + length rest.now < 2 ^ 64 }
+    ensures part_value { result.part ≡ indent_of held place rest.now }
+    ensures size_value { result.size ≡ size_of held rest.now }
+{
+    match held {
+        Some(p) => Indentation { part: p, size: 0 },
+        None => {
+            let size = text::leading(Dropped::Blanks, rest);
+            Indentation {
+                part: Part {
+                    start: place,
+                    end: place + size,
+                },
+                size,
+            }
+        }
+    }
+}
+
+// A part counted from the place, counted from the document's start.
+fn shifted(place: usize, p: Part) -> Part
     requires start_bound { place + p.start < 2 ^ 64 }
     requires end_bound { place + p.end < 2 ^ 64 }
-    ensures { result ≡ said_by (with_text number line (shifted_by place p)) }
+    ensures { result ≡ shifted_by place p }
 {
-    Said {
-        number,
-        line,
+    Part {
         start: place + p.start,
         end: place + p.end,
-        from: 0,
-        to: 0,
-        opened: 0,
     }
 }
 
 // What a plan says, in numbers, with its line and its places.
+#[tactic(auto, unfolding(crate::specs::Token::values_of, crate::specs::Token::token_values))]
 fn numbered(says: Says, line: usize, place: usize, indent: Part) -> Said
-    requires says_bound { place + reach says < 2 ^ 64 }
-    requires number_bound { (values_of (answer_of says line place indent)).number < 2 ^ 64 }
+    requires { place + reach says < 2 ^ 64 }
     ensures { result ≡ said_by (values_of (answer_of says line place indent)) }
 {
     match says {
-        Says::End => say(0, 0),
-        Says::Newline => say(1, line),
-        Says::Comment(p) => say_text(2, line, place, p),
-        Says::Indent => say(3, line),
-        Says::Outdent => say(4, line),
-        Says::ListItem => say(5, line),
-        Says::MapKey(p) => say_text(6, line, place, p),
-        Says::Value(p) => say_text(7, line, place, p),
-        Says::MultilineHint(p) => say_text(8, line, place, p),
+        Says::End => Said::bare(0, 0),
+        Says::Newline => Said::bare(1, line),
+        Says::Comment(p) => Said::with_text(2, line, shifted(place, p)),
+        Says::Indent => Said::bare(3, line),
+        Says::Outdent => Said::bare(4, line),
+        Says::ListItem => Said::bare(5, line),
+        Says::MapKey(p) => Said::with_text(6, line, shifted(place, p)),
+        Says::Value(p) => Said::with_text(7, line, shifted(place, p)),
+        Says::MultilineHint(p) => Said::with_text(8, line, shifted(place, p)),
         Says::MultilineValue(p) => Said {
-            number: 9,
-            line,
-            start: place + p.start,
-            end: place + p.end,
             from: indent.start,
             to: indent.end,
-            opened: 0,
+            ..Said::with_text(9, line, shifted(place, p))
         },
-        Says::Refused(r) => say(256 + usize::from(r), line),
+        Says::Refused(r) => Said::refused(r, line),
     }
 }
 
-// A refusal that changes nothing.
-fn stays(f: Front, number: usize) -> Advanced
-    requires { number ≤ unfit_state }
-    ensures { result ≡ staying f number }
+fn held_after(change: Change, indent: Part) -> Option<Part>
+    ensures { result ≡ held_after change indent }
 {
-    let said = say(256 + number, 0);
+    match change {
+        Change::Keep => None,
+        Change::Open => None,
+        Change::Close => None,
+        Change::Hold => Some(indent),
+    }
+}
+
+fn one_less(depth: usize) -> usize
+    ensures { result ≡ depth - 1 }
+{
+    if 0 < depth { depth - 1 } else { 0 }
+}
+
+fn depth_after(change: Change, depth: usize) -> usize
+    requires { depth ≤ max_open }
+    ensures { result ≡ depth_after change depth }
+{
+    match change {
+        Change::Keep => depth,
+        Change::Open => depth + 1,
+        Change::Close => one_less(depth),
+        Change::Hold => one_less(depth),
+    }
+}
+
+// The plan of a step at the place: inner is the innermost open indentation, and indent this step's, k bytes of it
+// standing there.
+fn planned(
+    doc: &[u8],
+    place: usize,
+    marks: Marks,
+    depth: usize,
+    inner: Part,
+    indent: Part,
+    k: usize,
+) -> Plan
+    requires place_in_bounds { place ≤ length doc.now }
+    requires inner_fits { fit_part (length doc.now) inner ≡ true }
+    requires indent_fits { fit_part (length doc.now) indent ≡ true }
+    ensures { result ≡ plan_at marks depth (bytes_of doc.now inner) (bytes_of doc.now indent) (drop place doc.now) k }
+{
+    let inner_from = inner.start;
+    let inner_to = inner.end;
+    let from = indent.start;
+    let to = indent.end;
+    plan_at(
+        marks,
+        depth,
+        &doc[inner_from..inner_to],
+        &doc[from..to],
+        &doc[place..],
+        k,
+    )
+}
+
+// A refusal that changes nothing.
+#[tactic(auto, unfolding(crate::specs::Token::values_of))]
+fn stays(f: Front, refusal: Refusal) -> Advanced
+    ensures { result ≡ staying f refusal }
+{
     Advanced {
-        said,
+        said: Said::refused(refusal, 0),
         front: f,
         change: Change::Keep,
         indent: Part { start: 0, end: 0 },
@@ -116,27 +211,19 @@ fn stays(f: Front, number: usize) -> Advanced
 }
 
 // Whether what a step uses of a state is fit: all but the open indentations below the innermost.
+#[tactic(auto, unfolding(crate::specs::Front::near))]
 fn is_near(f: Front, inner: Part, n: usize) -> bool
-    requires { n ≤ max_document }
     ensures { result ≡ near n f inner }
 {
-    if n < f.place {
-        return false;
-    }
-    let held = f.held;
-    (0 < f.line)
-        & ((f.line <= f.place + 1)
-            & (held_fits(held, n) & ((f.depth <= State::MAX_OPEN) & part_fits(inner, n))))
+    f.fits(n) & part_fits(inner, n)
 }
 
 // What becomes of a plan, indent being the step's indentation.
 fn carried_out(f: Front, indent: Part, p: Plan) -> Advanced
     requires depth_le_max_open { f.depth ≤ max_open }
-    requires depth_bound { depth_after p.change f.depth ≤ max_open }
     requires pass_bound { f.place + p.pass < 2 ^ 64 }
     requires lines_bound { f.line + p.lines < 2 ^ 64 }
     requires says_bound { f.place + reach p.says < 2 ^ 64 }
-    requires number_bound { (values_of (answer_of p.says f.line f.place indent)).number < 2 ^ 64 }
     ensures { result ≡ advanced_by f indent p }
 {
     let says = p.says;
@@ -164,10 +251,10 @@ pub fn advance(doc: &[u8], f: Front, inner: Part) -> Advanced
     ensures { result ≡ advanced_of doc.now f inner }
 {
     if State::MAX_DOCUMENT < doc.len() {
-        return stays(f, 12);
+        return stays(f, Refusal::TooLong);
     }
     if !is_near(f, inner, doc.len()) {
-        return stays(f, 15);
+        return stays(f, Refusal::UnfitState);
     }
     let place = f.place;
     let marks = f.marks;

@@ -1,11 +1,11 @@
 ghost use Rattle.std.specs.Prelude.{◌≡◌};
 ghost use Rattle.tokenizer.specs.Token.{line_of, name_of, padded};
 
-use text::Part;
+use text::{Part, SyntaxError};
 
 // A token with its line and, where it has a text, that part of the document. A multiline value has its indentation's
-// part before its text's, as in the Rust. An Outdent has the line of the key or item that opened the section, which only the
-// parser knows: the tokenizer's have 0.
+// part before its text's, as in the Rust. An Outdent has the line of the key or item that opened the section, which
+// only the parser knows: the tokenizer's have 0.
 #[derive(Clone, Copy)]
 pub enum Token {
     Newline(usize),
@@ -20,7 +20,10 @@ pub enum Token {
     NoValue(usize),
 }
 
-// A name's bytes, zeros after them, and how many they are.
+// What a step answers, as the Rust's iterator does: nothing at the end, a token, or a refusal with its line.
+pub type Answer = Option<Result<Token, SyntaxError>>;
+
+// A name's bytes, zeros after them, and how many they are: memory is fixed, and no slice of it could be handed out.
 #[derive(Clone, Copy)]
 pub struct Name {
     pub bytes: [u8; 16],

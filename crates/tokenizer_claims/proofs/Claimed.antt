@@ -4,7 +4,7 @@ use Rattle.tokenizer.specs.Token.{Answer}
 use Prim.Native.Nat.{ℕ, ◌*◌, ◌≤◌, ◌<◌}
 use mathlib.Core.Path.{◌≡◌, subst}
 use mathlib.Core.List.{List}
-use mathlib.Core.Bool.{false, true≢false}
+use mathlib.Core.Bool.{false}
 use native.Mathlib.Omega.{arith}
 use lib.Dec.{ltb}
 use lib.ListN.{length}
@@ -21,7 +21,7 @@ use Rattle.tokenizer_claims.proofs.Readings.{reads_end, reads-one, last-kept, al
 
 vouched-fits : (d : List ℕ) (s : State) (a : Answer) → Vouched d s a → is_end a ≡ false → Fits d a
 unfolding is_end
-vouched-fits d s None v e = absurd (true≢false e)
+vouched-fits d s None v e = absurd cc
 vouched-fits d s (Some (Ok t)) v e = v
 vouched-fits d s (Some (Err x)) v e = v
 

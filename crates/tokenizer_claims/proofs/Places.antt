@@ -5,7 +5,7 @@ use Rattle.text.specs.declared.refusals.SyntaxError.{SyntaxError}
 use Prim.Native.Nat.{ℕ, ◌+◌, ◌≤◌}
 use mathlib.Core.Path.{◌≡◌}
 use mathlib.Core.List.{List, [], ◌∷◌}
-use mathlib.Core.Bool.{false, true≢false}
+use mathlib.Core.Bool.{false}
 use native.Mathlib.Omega.{arith}
 use lib.ListN.{length}
 use Rattle.text.specs.declared.bytes.Part.{Part}
@@ -65,7 +65,7 @@ module _ (d : List ℕ) (l : length d ≤ 16777216) where
 
   placed : {n k : ℕ} {as₁ : List Answer} (a : Answer) → is_end a ≡ false → Between n a k → ((m : ℕ) → m ≤ k → Placed m as₁) → Placed n (a ∷ as₁)
   unfolding is_end
-  placed None f b h = absurd (true≢false f)
+  placed None f b h = absurd cc
   placed (Some (Ok t)) f b h = more b.0 (h _ b.1)
   placed (Some (Err e)) f b h = refused
 

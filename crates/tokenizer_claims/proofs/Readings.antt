@@ -1,6 +1,6 @@
 -- Readings in general: a state has one; what each step keeps holds to its end; and where each step lowers a number unless it
 -- says End, that number bounds the answers, and the list that is computed in so many steps is read.
-use Rattle.std.specs.Prelude.{Some, None, Ok, Err}
+use Rattle.std.specs.Prelude.{Some, None}
 use Rattle.tokenizer.specs.Token.{Answer}
 use Prim.Native.Nat.{ℕ, zero, suc, ◌≤◌, ◌<◌}
 use mathlib.Core.Path.{◌≡◌, refl, sym, ap, ◌∙◌, subst}
@@ -15,19 +15,18 @@ use Rattle.tokenizer.specs.declared.state.State.{State}
 use Rattle.tokenizer_claims.specs.Claims.{All}
 use Rattle.tokenizer.specs.declared.state.Step.{Step}
 
-is-end : (a : Answer) → is_end a ≡ true → a ≡ None
+pub is-end : (a : Answer) → is_end a ≡ true → a ≡ None
 unfolding is_end
 is-end None e = refl
-is-end (Some (Ok t)) e = absurd (false≢true e)
-is-end (Some (Err x)) e = absurd (false≢true e)
+is-end (Some a) e = absurd cc
 
 -- End comes last
 pub reads_end : {d : List ℕ} {s u : State} {l : List Answer} → Reads d s l u → (step_of d u).answer ≡ None
 reads_end (ends e) = e
 reads_end (says q f r) = reads_end r
 
--- after End nothing is said
-no_more : {x : Step State} {a : Answer} {t : State} → x.answer ≡ None → x ≡ record { answer = a; state = t } → is_end a ≡ false → ⊥
+-- after End nothing is said, by the tokenizer's steps or by the parser's
+pub no_more : {S : Type 0} {x : Step S} {a : Answer} {t : S} → x.answer ≡ None → x ≡ record { answer = a; state = t } → is_end a ≡ false → ⊥
 unfolding is_end
 no_more e q f = false≢true (sym f ∙ ap is_end (rw q at e))
 
@@ -40,6 +39,11 @@ reads-one {d} (says {as₁ = l} q f r) (says {u = v} {as₁ = m} q' f' r') =
     let same = sym q' ∙ q in
     let rest : l ≡ m = reads-one r (subst (λ x. Reads d x m v) (ap (λ x. x.state) same) r') in
     cc (ap (λ x. x.answer) same)
+
+-- one more answer in front
+pub more : (d : List ℕ) (s : State) {a : Answer} {l : List Answer} → (step_of d s).answer ≡ a → is_end a ≡ false
+    → (u : State) × Reads d (step_of d s).state l u → (u : State) × Reads d s (a ∷ l) u
+more d s e f r = (r.0, says (λ i. record { answer = e i; state = (step_of d s).state }) f r.1)
 
 -- Kept is what each step keeps
 module _ {d : List ℕ} {Kept : State → Type 0} (keep : (s : State) → Kept s → Kept (step_of d s).state) where
@@ -67,8 +71,4 @@ module _ {d : List ℕ} {Kept : State → Type 0} (keep : (s : State) → Kept s
     run-reads (suc n) s k w =
         by_bool (is_end (step_of d s).answer)
         (λ e. rw e (s, ends (is-end (step_of d s).answer e)))
-        (λ e. rw e (more e (run-reads n (step_of d s).state (keep s k) (omega (arith, falls s k e)))))
-      where
-        more : {l : List Answer} → is_end (step_of d s).answer ≡ false → (u : State) × Reads d (step_of d s).state l u
-            → (u : State) × Reads d s ((step_of d s).answer ∷ l) u
-        more e r = (r.0, says refl e r.1)
+        (λ e. rw e (more d s refl e (run-reads n (step_of d s).state (keep s k) (omega (arith, falls s k e)))))

@@ -8,27 +8,9 @@ use mathlib.Core.List.{List, [], ◌∷◌}
 use mathlib.Core.Bool.{true}
 use native.Mathlib.Omega.{arith}
 use lib.ListN.{length, drop, get_or, set, replicate, length-drop}
-use borrow.Author.Tests.{lt-ltb, le-ltb, le-leb}
+use borrow.Author.Tests.{le-ltb}
 use Rattle.text.specs.declared.bytes.Part.{Part}
-use Rattle.tokenizer.specs.Step.{
-  bytes_of,
-  no_part,
-  indent_of,
-  size_of,
-  inner_of,
-  indents_after,
-  held_after,
-  answer_of,
-  plan_with,
-  after_plan,
-  step_rule,
-  fit_part,
-  fit_held,
-  fit_open,
-  fit,
-  step_of,
-  fresh,
-}
+use Rattle.tokenizer.specs.Step.{bytes_of, no_part, indent_of, size_of, inner_of, indents_after, held_after, answer_of, plan_with, after_plan, step_rule, fit_held, fit_open, fit, step_of, fresh}
 use Rattle.tokenizer_rules.specs.declared.plan.Change.{Change}
 use Rattle.tokenizer_rules.specs.declared.plan.Change.TheVariants.{Keep, Open, Close, Hold}
 use Rattle.tokenizer_rules.specs.declared.plan.Plan.{Plan}
@@ -36,7 +18,7 @@ use Rattle.tokenizer_rules.specs.declared.plan.Says.{Says}
 use Rattle.tokenizer.specs.declared.state.State.{State}
 use Rattle.tokenizer_rules.proofs.PlanCases.{Cases, plan-cases}
 use Rattle.tokenizer.proofs.Bounds.{Bounded, plan-bounded}
-use Rattle.tokenizer_claims.specs.Claims.{Within}
+use Rattle.tokenizer.proofs.Fitness.{is-fit, part-fit}
 use Rattle.tokenizer_claims.proofs.Texts.{Indentation, no-indentation, indentation-at}
 
 -- what is left of the document, the indentation that the step reads or finds held, its plan, and its answer where it says x
@@ -96,29 +78,26 @@ fresh-sound d = record {
 
 -- A sound state is fit
 
-part-fit : (d : List ℕ) (p : Part) → Within d p → fit_part (length d) p ≡ true
-part-fit d p w = rw (le-leb p.start p.end w.starts, le-leb p.end (length d) w.ends)
-
 held-fit : (d : List ℕ) (h : Option Part) → HeldSound d h → fit_held (length d) h ≡ true
 held-fit d None x = refl
-held-fit d (Some p) x = part-fit d p x.within
+held-fit d (Some p) x = part-fit (length d) p x.within.starts x.within.ends
 
 open-fit : (d : List ℕ) (is : List Part) → ((j : ℕ) → Indentation d (get_or is j no_part)) → (n : ℕ) → fit_open (length d) is n ≡ true
 unfolding fit_open
 open-fit d is x zero = refl
-open-fit d is x (suc n) = rw (part-fit d (get_or is n no_part) (x n).within, open-fit d is x n)
+open-fit d is x (suc n) = rw (held-fit d (Some (get_or is n no_part)) (x n), open-fit d is x n)
 
 pub sound-fit : (d : List ℕ) (s : State) → Sound d s → fit (length d) s ≡ true
-unfolding fit
 sound-fit d s o =
-    rw (
-      le-leb s.place (length d) o.place,
-      lt-ltb 0 s.line o.first,
-      le-leb s.line (s.place + 1) o.line,
-      held-fit d s.held o.held,
-      le-leb s.depth 64 o.depth,
-      open-fit d s.indents o.indents s.depth,
-    )
+    is-fit (length d) s
+    (record {
+      place = o.place;
+      line_low = o.first;
+      line-high = o.line;
+      held = held-fit d s.held o.held;
+      depth = o.depth;
+      opens = open-fit d s.indents o.indents s.depth;
+    })
 
 -- so its step is that of the rules
 pub step-sound : (d : List ℕ) (s : State) → length d ≤ 16777216 → Sound d s → step_of d s ≡ step_rule d s

@@ -30,13 +30,16 @@ text-trimmed which s u =
     let l = trimmed-le (dropped which) s in
     record { within = record { starts = l.0; ends = l.1 }; valid = trimmed-utf8 which s u }
 
-text-append : (s t : List ℕ) (p : Part) → Text s p → Text (s ++ t) p
+pub bytes-append : (s t : List ℕ) (p : Part) → Within s p → bytes_of (s ++ t) p ≡ bytes_of s p
+bytes-append s t p w =
+    let l : p.start ≤ length s = omega (arith, w.starts, w.ends) in
+    let n : p.end - p.start ≤ length (drop p.start s) = omega (arith, w.ends, length-drop p.start s) in
+    rw (drop-append-le p.start s t l, take-append-le (p.end - p.start) (drop p.start s) t n)
+
+pub text-append : (s t : List ℕ) (p : Part) → Text s p → Text (s ++ t) p
 text-append s t p x = record {
   within = record { starts = x.within.starts; ends = omega (arith, x.within.ends, length-append s t) };
-  valid =
-      let l : p.start ≤ length s = omega arith in
-      let m : p.end - p.start ≤ length (drop p.start s) = omega (arith, length-drop p.start s) in
-      rw (drop-append-le p.start s t l, take-append-le (p.end - p.start) (drop p.start s) t m) x.valid;
+  valid = rw (bytes-append s t p x.within) x.valid;
 }
 
 pub text-take : (n : ℕ) (s : List ℕ) (p : Part) → Text (take n s) p → Text s p

@@ -3,9 +3,10 @@
 -- because refusal 2 clears it and passes nothing, the multiline mark because it pays for the empty key before a `;`.
 use Rattle.std.specs.Prelude.{Option, Some, None}
 use Prim.Native.Nat.{ℕ, zero, suc, ◌+◌, ◌*◌, ◌-◌, ◌≤◌, ◌<◌}
-use mathlib.Core.Path.{◌≡◌, sym, ◌∙◌}
+use mathlib.Core.Path.{◌≡◌, refl, ap}
 use mathlib.Core.List.{List, [], ◌∷◌}
-use mathlib.Core.Bool.{Bool, true, false, ◌&&◌, true≢false}
+use mathlib.Core.Bool.{Bool, true, false, ◌&&◌}
+use native.Mathlib.Numerals.{one-add}
 use native.Mathlib.Omega.{arith}
 use lib.ListN.{length, take, drop, length-take, length-drop}
 use lib.Dec.{eqb}
@@ -49,18 +50,19 @@ held-size (Some p) n r = omega arith
 pub deeper-pos : (s t : List ℕ) → relation_of s t ≡ Deeper → 1 ≤ length t
 unfolding relation_of
 deeper-pos s (b ∷ t) e = omega arith
-deeper-pos [] [] e = let z : ◌≡◌ {A = ℕ} 0 1 = cc in absurd (omega arith)
-deeper-pos (a ∷ s) [] e = let z : ◌≡◌ {A = ℕ} 0 1 = cc in absurd (omega arith)
+deeper-pos [] [] e = absurd cc
+deeper-pos (a ∷ s) [] e = absurd cc
 
 -- where no section is open, no indentation is less deep
 pub other-pos : (d : List ℕ) (is : List Part) (n : ℕ) (t : List ℕ) → relation_of (bytes_of d (inner_of is n)) t ≡ Other → 1 ≤ n
 unfolding relation_of
 other-pos d is (suc n) t e = omega arith
-other-pos d is zero [] e = let z : ◌≡◌ {A = ℕ} 0 1 = cc in absurd (omega arith)
-other-pos d is zero (b ∷ t) e = let z : ◌≡◌ {A = ℕ} 0 1 = cc in absurd (omega arith)
+other-pos d is zero [] e = absurd cc
+other-pos d is zero (b ∷ t) e = absurd cc
 
-line-pos : (b : ℕ) (r : List ℕ) → is_break b ≡ false → 1 ≤ line_end (b ∷ r)
-line-pos b r e = rw e (omega arith)
+-- a byte that is no break
+pub line_first : (b : ℕ) (r : List ℕ) → is_break b ≡ false → line_end (b ∷ r) ≡ suc (line_end r)
+line_first b r e = rw (e, one-add)
 
 -- a text that begins with what does not end it has a byte
 text-pos : (also b : ℕ) (r : List ℕ) → stops also b ≡ false → 1 ≤ text_end also (b ∷ r)
@@ -69,12 +71,14 @@ text-pos also b r e = by_bool (eqb b 34) (λ t. rw t (omega arith)) (λ t. rw (t
 
 -- The marks
 
-count-le : (t : Bool) → count t ≤ 1
+pub count-le : (t : Bool) → count t ≤ 1
 count-le true = omega arith
 count-le false = omega arith
 
-count_set : (t : Bool) → t ≡ true → count t ≡ 1
-count_set t e = rw e
+-- an entry clears the indentation mark
+pub entry-late : {m n : Marks} {inner indent : List ℕ} → Entry m inner indent n → n.indent ≡ false
+entry-late (later e) = e
+entry-late (first e q) = refl
 
 -- a hint leaves no value mark
 hint-le : (t : Option Part) (m : Marks) → count (hint_marks t (with_value false m)).value + 2 * count (hint_marks t (with_value false m)).multiline ≤ 2
@@ -88,8 +92,8 @@ entry-le (first e q) = omega arith
 -- where `;` begins no comment, an entry clears the multiline mark
 entry_lt : {m n : Marks} {inner indent : List ℕ} → Entry m inner indent n → (m.indent && m.multiline) ≡ true
     → count n.multiline < count m.multiline
-entry_lt {m} (later e) t = absurd (true≢false (sym (and_left m.indent m.multiline t) ∙ e))
-entry_lt {m} (first e q) t = omega (arith, count_set m.multiline (and_right m.indent m.multiline t))
+entry_lt {m} (later e) t = let i = and_left m.indent m.multiline t in absurd cc
+entry_lt {m} (first e q) t = omega (arith, ap count (and_right m.indent m.multiline t))
 
 -- a key has a byte, or stands where a multiline value was due
 key-pays : {m n : Marks} {inner indent : List ℕ} (b : ℕ) (r : List ℕ) → Content m b → Entry m inner indent n → eqb b 61 ≡ false
@@ -113,22 +117,22 @@ module _ (d : List ℕ) (s : State) (o : Sound d s) where
       let i = indent_at d s in
       let t = length-take (i.end - i.start) (drop i.start d) in
       record {
-        ends = λ q n h. record { falls = λ f. absurd (true≢false f) };
+        ends = λ q n h. record { falls = λ f. absurd cc };
         closes = λ q n h. omega arith;
         line = λ b r q. record {
           newline = λ e h. omega (arith, break-pos b r e);
           comment = λ e c h. omega arith;
-          multiline = λ c i q u h. omega (arith, count_set s.marks.multiline u);
+          multiline = λ c i q u h. omega (arith, ap count u);
           opens = λ c i q u n h. omega (arith, deeper-pos _ _ q);
-          full = λ c i q u n h. omega (arith, line-pos b r c.no-break);
+          full = λ c i q u n h. omega (arith, line_first b r c.no-break);
           outdent = λ c i q h. omega (arith, other-pos d s.indents s.depth _ q);
           item = λ c e v t h. omega (arith, entry-le e);
           key = λ c e v t h. omega (arith, key-pays b r c e t);
-          quotes = λ c e v t u h. omega (arith, entry-le e, count_set s.marks.value v);
+          quotes = λ c e v t u h. omega (arith, entry-le e, ap count v);
           hint = λ {n} c e v t u h.
               let w = drop 3 (b ∷ r) in
               omega (arith, hint-le (checked_of Blanks (take (plain_end 59 w) w)) n);
-          plain = λ c e v t h. omega (arith, entry-le e, count_set s.marks.value v);
+          plain = λ c e v t h. omega (arith, entry-le e, ap count v);
         };
       }
 

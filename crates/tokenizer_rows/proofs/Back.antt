@@ -5,7 +5,8 @@ use native.Mathlib.Omega.{arith}
 use Rattle.tokenizer.specs.Token.{token_values}
 use Rattle.tokenizer.specs.declared.token.Token.{Token}
 use Rattle.tokenizer.specs.declared.token.Token.TheVariants as token
-use Rattle.tokenizer_rows.specs.Rows.{token_by, token_in}
+use Rattle.tokenizer.specs.Said.{token_of}
+use Rattle.tokenizer_rows.specs.Rows.{token_in}
 use Rattle.tokenizer_rows.specs.Claims.{TokensBack}
 
 -- a token's kind
@@ -23,7 +24,7 @@ kinds (token.MultilineValue l i p) = (omega arith, omega arith)
 kinds (token.NoValue l) = (omega arith, omega arith)
 
 pub tokens-back : TokensBack
-unfolding token_in token_by token_values
+unfolding token_in token_of token_values
 tokens-back (token.Newline l) r = refl
 tokens-back (token.Comment l p) r = refl
 tokens-back (token.Indent l) r = refl

@@ -8,6 +8,7 @@ use native.Mathlib.Nat.{min-le_right}
 use native.Mathlib.Omega.{arith}
 use lib.Dec.{eqb}
 use lib.ListN.{length, take, drop, length-take, length-drop}
+use lib.Seq.{length-take-le}
 use Rattle.std.specs.Prelude.{Option, Some, None, MatchOption, option_map, slice_get}
 use Rattle.text.specs.Bytes.{is_break, not_break, break_size, line_end, shifted_by}
 use Rattle.std.proofs.lemmas.List.Sums.{prefix_len-le-length}
@@ -25,6 +26,7 @@ use Rattle.tokenizer_rules.specs.declared.plan.Says.TheVariants.{MultilineHint, 
 use Rattle.tokenizer_rules.specs.declared.plan.Plan.{Plan}
 use Rattle.text.specs.declared.refusals.Refusal.TheVariants.{InvalidUtf8}
 use Rattle.tokenizer_rules.specs.Plan.{keeps, said, hint_marks, plan_on, plan_end, plan_newline, plan_comment, plan_indented, plan_entry}
+use Rattle.tokenizer_scans.specs.declared.readers.Lines.{Lines}
 use Rattle.tokenizer_scans.proofs.Quotes.{plain-le, text_le, eq-le, hint-le}
 use Rattle.tokenizer_scans.proofs.Pieces.{extent-le}
 
@@ -33,6 +35,9 @@ use Rattle.tokenizer_scans.proofs.Pieces.{extent-le}
 pub lines_le : (indent s : List ℕ) → (lines_of indent s).len ≤ length s
 unfolding lines_of
 lines_le indent s = extent-le indent false s
+
+pub lines_in : (indent s : List ℕ) {v : Lines} → v ≡ lines_of indent s → v.len ≡ length (take v.len s)
+lines_in indent s e = sym (length-take-le _ _ (rw e (lines_le indent s)))
 
 pub break_le : (s : List ℕ) → break_size s ≤ length s
 break_le s = break-le s

@@ -186,7 +186,7 @@ fn consume_multiline_hint(m: Marks, s: &Cursor) -> Plan
 }
 
 // The multiline value of that indentation that rest begins with.
-#[tactic(auto, using(crate::proofs::Plans::lines_le), unfolding(crate::specs::Plan::plan_multiline))]
+#[tactic(auto, using(crate::proofs::Plans::lines_in), unfolding(crate::specs::Plan::plan_multiline))]
 fn consume_multiline(m: Marks, indent: &[u8], rest: &[u8]) -> Plan
     ensures { result ≡ plan_multiline m indent.now rest.now }
 {
@@ -301,8 +301,8 @@ fn content(m: Marks, depth: usize, inner: &[u8], indent: &[u8], b: u8, s: &Curso
     }
 }
 
-// The plan of a step: depth sections are open, inner is the innermost one's indentation and indent this step's, rest the
-// document from the place on, and k how many bytes of it the indentation takes (0 where it was held).
+// The plan of a step: depth sections are open, inner is the innermost one's indentation and indent this step's, rest
+// the document from the place on, and k how many bytes of it the indentation takes (0 where it was held).
 #[tactic(auto, using(crate::proofs::Plans::at_end, crate::proofs::Plans::at_break), unfolding(crate::specs::Plan::plan_at))]
 pub fn plan_at(m: Marks, depth: usize, inner: &[u8], indent: &[u8], rest: &[u8], k: usize) -> Plan
     ensures { result ≡ plan_at m depth inner.now indent.now rest.now k }

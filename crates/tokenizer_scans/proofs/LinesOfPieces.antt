@@ -1,9 +1,9 @@
 -- The lines of a text by its breaks and by its pieces are the same: a byte that is no break changes neither count but for the
 -- first piece, which it makes no lone LF.
-use Prim.Native.Nat.{ℕ, ◌+◌}
+use Prim.Native.Nat.{ℕ}
 use mathlib.Core.Path.{◌≡◌, refl, sym, ◌∙◌}
 use mathlib.Core.List.{List, [], ◌∷◌}
-use mathlib.Core.Bool.{Bool, true, false, cond}
+use mathlib.Core.Bool.{Bool, true, false}
 use native.Mathlib.Omega.{arith}
 use lib.Dec.{eqb}
 use borrow.Author.Tests.{eqb-true}
@@ -11,6 +11,7 @@ use Rattle.text.specs.Bytes.{is_break}
 use Rattle.text.proofs.Cases.{by_bool}
 use Rattle.tokenizer_scans.specs.Scans.{breaks_after, is_lf, ends_in_cr, ends_in_break, line_count}
 use Rattle.tokenizer_scans.specs.Claims.{on_first, pieces, piece_lines, LinesOfPieces}
+use Rattle.tokenizer_scans.proofs.Pieces.{lines_after}
 
 -- there is a first piece, and it has a byte
 abbrev Some : List (List ℕ) → Type 0
@@ -34,20 +35,16 @@ before b ([] ∷ ps) cr h e = absurd h
 before b ((c ∷ p) ∷ ps) true h e = refl
 before b ((c ∷ p) ∷ ps) false h e = refl
 
--- the lines of a text behind a CR, or not
-abbrev lines_after : Bool → List ℕ → ℕ
-lines_after cr s = breaks_after cr s + cond (ends_in_break true s) 0 1
-
 -- behind a byte that is no break
 other : (b : ℕ) (r : List ℕ) (cr : Bool) → eqb b 13 ≡ false → eqb b 10 ≡ false → lines_after false r ≡ piece_lines false (pieces r)
     → lines_after cr (b ∷ r) ≡ piece_lines cr (pieces (b ∷ r))
-unfolding breaks_after ends_in_break pieces piece_lines is_lf ends_in_cr is_break
+unfolding lines_after breaks_after ends_in_break pieces piece_lines is_lf ends_in_cr is_break
 other b [] true e f h = rw (e, f) (rw f)
 other b [] false e f h = rw (e, f)
 other b (c ∷ r) cr e f h = rw (e, f) (h ∙ sym (before b (pieces (c ∷ r)) cr (some c r) e))
 
 lines : (s : List ℕ) (cr : Bool) → lines_after cr s ≡ piece_lines cr (pieces s)
-unfolding breaks_after ends_in_break pieces piece_lines is_lf ends_in_cr is_break
+unfolding lines_after breaks_after ends_in_break pieces piece_lines is_lf ends_in_cr is_break
 lines [] cr = refl
 lines (b ∷ r) cr =
     by_bool (eqb b 13)
@@ -57,5 +54,5 @@ lines (b ∷ r) cr =
     (λ f. other b r cr e f (lines r false)))
 
 pub lines-of-pieces : LinesOfPieces
-unfolding line_count
+unfolding line_count lines_after
 lines-of-pieces s = lines s false

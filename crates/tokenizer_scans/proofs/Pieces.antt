@@ -1,7 +1,7 @@
 -- Laws of the pieces of a multiline value. The loop of `multiline_len` goes piece by piece, the definitions go byte by byte with
 -- what stands before carried along; `Passed` is the loop's invariant. Also the bounds of `multiline_end` and of `line_count`.
 use Prim.Native.Nat.{ℕ, suc, ◌+◌, ◌-◌, ◌≤◌, ◌<◌}
-use mathlib.Core.Path.{◌≡◌, refl, ap}
+use mathlib.Core.Path.{◌≡◌, refl, sym, ap}
 use mathlib.Core.List.{List, [], ◌∷◌}
 use mathlib.Core.Bool.{Bool, true, false, cond, not, ◌&&◌, ◌||◌, and-true, and-false}
 use native.Mathlib.Nat.{add-zero, zero-add, suc-add}
@@ -9,7 +9,7 @@ use native.Mathlib.Numerals.{one-add, sub-one}
 use native.Mathlib.Omega.{arith}
 use lib.Dec.{eqb}
 use lib.ListN.{length, take, drop, length-drop, drop_of_length-le}
-use lib.Seq.{take-nil, drop-drop}
+use lib.Seq.{length-take-le, take-nil, drop-drop}
 use borrow.Author.Tests.{eqb-true}
 use Rattle.std.specs.Prelude.{Some, slice_get}
 use Rattle.std.specs.Option.{option_eq}
@@ -40,9 +40,14 @@ unfolding piece piece_len
 piece-some [] h = h
 piece-some (b ∷ r) h = omega arith
 
+-- as many bytes can be taken
+pub piece_in : (s : List ℕ) {n : ℕ} → n ≡ piece_len s → n ≡ length (take n s)
+piece_in s e = sym (length-take-le _ _ (rw e (piece-le s)))
+
 -- the piece at a position
-pub piece-at : (len : ℕ) (s : List ℕ) → len < length s → {n : ℕ} → n ≡ piece_len (drop len s) → (0 < n) × (len + n ≤ length s)
-piece-at len s h e =
+pub piece_at : (len : ℕ) (s : List ℕ) → len < length s → {n : ℕ} → n ≡ piece_len (drop len s)
+    → (0 < n) × (len + n ≤ length s)
+piece_at len s h e =
     rw e (piece-some (drop len s) (rw length-drop (omega arith)), omega (arith, piece-le (drop len s), length-drop len s))
 
 piece-take : (s : List ℕ) → take (piece_len s) s ≡ piece s
@@ -83,12 +88,13 @@ lone_lf [] = refl
 lone_lf (b ∷ []) = rw and-true
 lone_lf (b ∷ c ∷ r) = rw and-false
 
-last-cr : (before : Bool) (b : ℕ) (r : List ℕ) → option_eq eqb (slice_get (b ∷ r) (length r)) (Some 13) ≡ ends_in_cr before (b ∷ r)
+last-cr : (before : Bool) (b : ℕ) (r : List ℕ)
+    → ends_in_cr before (b ∷ r) ≡ option_eq eqb (slice_get (b ∷ r) (length r)) (Some 13)
 unfolding ends_in_cr
 last-cr before b [] = refl
 last-cr before b (c ∷ r) = last-cr (eqb b 13) c r
 
-pub cr_last : (s : List ℕ) → option_eq eqb (slice_get s (length s - 1)) (Some 13) ≡ ends_in_cr false s
+pub cr_last : (s : List ℕ) → ends_in_cr false s ≡ option_eq eqb (slice_get s (length s - 1)) (Some 13)
 unfolding ends_in_cr
 cr_last [] = refl
 cr_last (b ∷ r) = rw sub-one (last-cr false b r)
@@ -158,7 +164,7 @@ module _ (indent s : List ℕ) {len count : ℕ} {cr : Bool} (p : Passed indent 
       → Passed indent s (len + piece_len (drop len s)) count' cr'
   more-passed h b {lone} l c k =
       let rest : List ℕ = drop len s in
-      let a = piece-at len s h refl in
+      let a = piece_at len s h refl in
       record {
         within = a.1;
         few = rw c (on-cond (λ n. count + n ≤ len + piece_len rest) lone (λ _. omega (arith, p.few)) (λ _. omega (arith, p.few, a.0)));

@@ -9,13 +9,14 @@ use native.Mathlib.Nat.{add-zero, add-suc, suc-add}
 use native.Mathlib.Numerals.{add-one, one-add}
 use native.Mathlib.Omega.{arith}
 use lib.Dec.{eqb, ltb}
-use lib.ListN.{length, get_or, drop, length-drop, drop_of_length-le}
+use lib.ListN.{length, get_or, take, drop, length-drop, drop_of_length-le}
 use lib.Seq.{drop-cons}
 use borrow.Author.Tests.{ltb-true, ltb-false}
 use Rattle.std.specs.Prelude.{Option, Some, None, slice_get}
 use Rattle.std.specs.Option.{option_eq, option_copied}
 use Rattle.text.specs.Bytes.{is_break}
 use Rattle.text.proofs.Cases.{by_bool, on-cond, clash}
+use Rattle.text.proofs.Front.{from}
 use Rattle.text.proofs.Prefix.{short}
 use Rattle.std.proofs.lemmas.List.Sums.{prefix_len-le-length}
 use Rattle.tokenizer_scans.specs.Scans.{stops, plain_end, closing, quotes_end, text_end, begins_hint, eq_size}
@@ -49,10 +50,11 @@ read None q e f = rw (← e) f
 read (Some x) q e f = rw (← e) f
 
 -- By the first byte.
-pub quotes_first : (s : List ℕ) → quotes_end s ≡ cond (option_eq eqb (slice_get s 0) (Some 34)) (1 + closing false (drop 1 s)) 0
+pub quotes_first : (s : List ℕ)
+    → quotes_end s ≡ cond (option_eq eqb (slice_get s 0) (Some 34)) (1 + closing false (take (length s - 1) (drop 1 s))) 0
 unfolding quotes_end
 quotes_first [] = refl
-quotes_first (b ∷ r) = rw one-add
+quotes_first (b ∷ r) = rw (from, one-add)
 
 pub eq_first : (s : List ℕ) → eq_size s ≡ cond (option_eq eqb (slice_get s 0) (Some 61)) 1 0
 unfolding eq_size
@@ -60,18 +62,18 @@ eq_first [] = refl
 eq_first (b ∷ r) = refl
 
 -- The bounds.
-closing-le : (escaped : Bool) (s : List ℕ) → closing escaped s ≤ length s
+pub closing_le : (escaped : Bool) (s : List ℕ) → closing escaped s ≤ length s
 unfolding closing
-closing-le escaped [] = omega arith
-closing-le escaped (b ∷ r) =
-    let i = closing-le (eqb b 92 && not escaped) r in
+closing_le escaped [] = omega arith
+closing_le escaped (b ∷ r) =
+    let i = closing_le (eqb b 92 && not escaped) r in
     on-cond (λ n. n ≤ suc (length r)) (is_break b) (λ _. omega arith)
     (λ _. on-cond (λ n. n ≤ suc (length r)) (eqb b 34 && not escaped) (λ _. omega arith) (λ _. omega arith))
 
 pub quotes_le : (s : List ℕ) → quotes_end s ≤ length s
 unfolding quotes_end
 quotes_le [] = omega arith
-quotes_le (b ∷ r) = on-cond (λ n. n ≤ suc (length r)) (eqb b 34) (λ _. omega (arith, closing-le false r)) (λ _. omega arith)
+quotes_le (b ∷ r) = on-cond (λ n. n ≤ suc (length r)) (eqb b 34) (λ _. omega (arith, closing_le false r)) (λ _. omega arith)
 
 pub plain-le : (also : ℕ) (s : List ℕ) → plain_end also s ≤ length s
 unfolding plain_end

@@ -18,6 +18,7 @@ ghost use Rattle.tokenizer_scans.specs.Scans.{
 };
 
 use text::{Dropped, Part, is_newline};
+use text_scans::same_eights;
 
 // How an indentation lies to the innermost open one: the same bytes, longer and beginning with it, or neither.
 #[derive(Clone, Copy, Debug, PartialEq, Eq)]
@@ -27,11 +28,13 @@ pub enum Relation {
     Other,
 }
 
-#[tactic(auto, using(crate::proofs::Related::other, crate::proofs::Related::equal, crate::proofs::Related::deeper))]
+// Eights are compared first: an indentation is often long.
+#[tactic(auto, using(crate::proofs::Related::other, crate::proofs::Related::equal, crate::proofs::Related::deeper, text::proofs::Skipped::common, text::proofs::Front::from))]
 pub fn relate(inner: &[u8], indent: &[u8]) -> Relation
     ensures { result ≡ relation_of inner.now indent.now }
 {
-    if !text::starts_with(indent, inner) {
+    let whole = same_eights(indent, inner);
+    if !text::starts_with(&indent[whole..], &inner[whole..]) {
         return Relation::Other;
     }
     if indent.len() == inner.len() {
@@ -59,6 +62,7 @@ pub fn plain_len(s: &[u8], also: u8) -> usize
 
 // How many bytes the quotes take that s begins with, the closing one included: up to CR, LF or the end where none
 // closes them; 0 where s begins with no quote.
+#[tactic(auto, using(crate::proofs::Quotes::read, crate::proofs::Quotes::quotes_first, crate::proofs::Quotes::closing_le))]
 fn quotes_len(s: &[u8]) -> usize
     ensures { result ≡ quotes_end s.now }
 {
@@ -156,6 +160,7 @@ fn is_lf(piece: &[u8]) -> bool
     piece == b"\n".as_slice()
 }
 
+#[tactic(auto, using(crate::proofs::Quotes::read, crate::proofs::Pieces::cr_last))]
 fn ends_in_cr(piece: &[u8]) -> bool
     ensures { result ≡ ends_in_cr false piece.now }
 {
@@ -164,6 +169,7 @@ fn ends_in_cr(piece: &[u8]) -> bool
 
 // An index: a piece ends where `line_end` says, which looks at sixteen bytes at once; `split_inclusive` would ask a
 // closure at each byte.
+#[tactic(auto, using(crate::proofs::Pieces::none_passed, crate::proofs::Pieces::piece_in, crate::proofs::Pieces::piece_at, text::proofs::Front::from))]
 pub fn multiline_len(indent: &[u8], s: &[u8]) -> Lines
     ensures { result ≡ lines_of indent.now s.now }
 {

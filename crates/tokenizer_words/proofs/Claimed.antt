@@ -13,7 +13,7 @@ use Rattle.tokenizer.specs.Step.{fresh}
 use Rattle.tokenizer.specs.declared.state.State.{State}
 use Rattle.tokenizer_words.specs.Words.{flag, held_words, part_words, front_words, words_of, readable}
 use Rattle.tokenizer_words.specs.Claims.{Slots, StatesBack, StoredBack, Layout}
-use Rattle.tokenizer_words.proofs.Slots.{held-words, words-137}
+use Rattle.tokenizer_words.proofs.Slots.{held_depth, words-137}
 use Rattle.tokenizer_words.proofs.Storing.{stored-137}
 use Rattle.tokenizer_words.proofs.Standing.{state-back}
 
@@ -34,7 +34,7 @@ state-reads : (s : State) (r : List ℕ) → Slots s → readable (words_of s ++
 unfolding words_of front_words readable
 state-reads s r e =
     rw (le-leb 137 (length (words_of s ++ r)) (long s r e))
-    (rw (← held-words s.held s.depth)
+    (rw (← held_depth s.held s.depth)
     (rw (flag-tells s.marks.indent, flag-tells s.marks.value, flag-tells s.marks.multiline, held_tells s.held)))
 
 pub states-back : StatesBack

@@ -12,7 +12,7 @@ use Rattle.text.specs.declared.bytes.Part.{Part}
 use Rattle.tokenizer.specs.Step.{no_part}
 use Rattle.tokenizer.specs.declared.state.State.{State}
 use Rattle.tokenizer_words.specs.Words.{pasted, flag, held_words, part_words, front_words, words_of, parts_in, held_by, state_in}
-use Rattle.tokenizer_words.proofs.Slots.{parts-length, held-words}
+use Rattle.tokenizer_words.proofs.Slots.{parts-length, held_depth}
 
 -- the kth of n slots
 pub part_at : (n : ℕ) (v : List ℕ) (k : ℕ) → k < n → get_or (parts_in n v) k no_part ≡ record { start = get_or v (2 * k) 0; end = get_or v (2 * k + 1) 0 }
@@ -75,7 +75,7 @@ eqb-flag false = refl
 pub state-back : (s : State) (r : List ℕ) → length s.indents ≡ 64 → state_in (words_of s ++ r) ≡ s
 unfolding words_of front_words state_in
 state-back s r e =
-    rw (← held-words s.held s.depth)
+    rw (← held_depth s.held s.depth)
     (rw (eqb-flag s.marks.indent, eqb-flag s.marks.value, eqb-flag s.marks.multiline, held_back s.held, parts-back s.indents r 64 e))
 
 -- the state in words has its 64 slots

@@ -7,6 +7,8 @@ use Rattle.text.specs.Numbers.{max_open}
 use Rattle.text.specs.declared.bytes.Part.{Part}
 use Rattle.tokenizer.specs.declared.state.State.{State}
 use Rattle.tokenizer.specs.Step.{fresh}
+use Rattle.tokenizer.specs.Front.{front_of}
+use Rattle.tokenizer.specs.declared.front.Front.{Front}
 
 -- how many words a state has: nine, and two for each slot, 137
 abbrev pub tokenizer_size : ℕ
@@ -33,14 +35,14 @@ part_words [] = []
 part_words (p ∷ ps) = p.start ∷ p.end ∷ part_words ps
 
 -- all but the slots: nine words
-unfoldable pub front_words : State → List ℕ
-front_words s =
-    s.place ∷ s.line ∷ flag s.marks.indent ∷ flag s.marks.value ∷ flag s.marks.multiline
-    ∷ (held_words s.held ++ (s.depth ∷ []))
+unfoldable pub front_words : Front → List ℕ
+front_words f =
+    f.place ∷ f.line ∷ flag f.marks.indent ∷ flag f.marks.value ∷ flag f.marks.multiline
+    ∷ (held_words f.held ++ (f.depth ∷ []))
 
 -- the words of a state
 unfoldable pub words_of : State → List ℕ
-words_of s = front_words s ++ part_words s.indents
+words_of s = front_words (front_of s) ++ part_words s.indents
 
 -- the words with the state at their front; unchanged where there are fewer than 137
 unfoldable pub stored_in : State → List ℕ → List ℕ

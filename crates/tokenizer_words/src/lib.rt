@@ -3,4 +3,7 @@
 
 mod words;
 
-pub use words::{flag_of, fresh, held_by, held_words, is_fit, is_readable, paste, restore, store};
+pub use words::{
+    flag_of, fresh, front_in, front_words, held_by, held_words, is_fit, is_readable, paste,
+    restore, store,
+};

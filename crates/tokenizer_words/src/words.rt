@@ -1,6 +1,7 @@
 // A state in the words of a lent slice, in the order of specs/Words.
 ghost use Rattle.std.specs.Prelude.{◌≡◌, cond, ◌&&◌, ◌≤◌, leb, length, take};
 ghost use Rattle.tokenizer.specs.Step.{fit};
+ghost use Rattle.tokenizer.specs.Front.{front_of};
 ghost use Rattle.tokenizer_words.specs.Words.{
   tokenizer_size,
   pasted,
@@ -17,7 +18,9 @@ ghost use Rattle.tokenizer_words.specs.Words.{
 };
 
 use text::Part;
-use tokenizer::{State, held_fits, part_fits};
+use tokenizer::{Front, State, part_fits};
+use tokenizer_rows::word;
+use tokenizer_rules::Marks;
 
 // Whether the words are a state's.
 pub fn is_readable(w: &[usize]) -> bool
@@ -40,28 +43,37 @@ pub fn held_by(held: usize, start: usize, end: usize) -> Option<Part>
     }
 }
 
-// Whether the state in the words fits a document of n bytes: tokenizer::State::fits, by the words.
-fn fits_in(n: usize, w: &[usize]) -> bool
-    requires { tokenizer_size ≤ length w.now }
-    ensures { result ≡ fit n (state_in w.now) }
+// The state in the words but for the slots; a word that they lack is 0.
+#[tactic(auto, unfolding(crate::specs::Words::state_in))]
+pub fn front_in(w: &[usize]) -> Front
+    ensures { result ≡ front_of (state_in w.now) }
 {
-    if n < w[0] {
+    let held = held_by(word(w, 5), word(w, 6), word(w, 7));
+    Front {
+        place: word(w, 0),
+        line: word(w, 1),
+        marks: Marks {
+            indent: word(w, 2) == 1,
+            value: word(w, 3) == 1,
+            multiline: word(w, 4) == 1,
+        },
+        held,
+        depth: word(w, 8),
+    }
+}
+
+// Whether the words are a state's, and it fits a document of n bytes: tokenizer::State::fits, by the words.
+pub fn is_fit(n: usize, w: &[usize]) -> bool
+    ensures { result ≡ (readable w.now && fit n (state_in w.now)) }
+{
+    if !is_readable(w) {
         return false;
     }
-    if w[1] == 0 {
+    let front = front_in(w);
+    if !front.fits(n) {
         return false;
     }
-    if w[0] < w[1] - 1 {
-        return false;
-    }
-    let held = held_by(w[5], w[6], w[7]);
-    if !held_fits(held, n) {
-        return false;
-    }
-    if State::MAX_OPEN < w[8] {
-        return false;
-    }
-    (0..w[8]).all(|i| {
+    (0..front.depth).all(|i| {
         let p = Part {
             start: w[9 + 2 * i],
             end: w[10 + 2 * i],
@@ -70,21 +82,12 @@ fn fits_in(n: usize, w: &[usize]) -> bool
     })
 }
 
-// Whether the words are a state's, and it fits a document of n bytes.
-pub fn is_fit(n: usize, w: &[usize]) -> bool
-    ensures { result ≡ (readable w.now && fit n (state_in w.now)) }
-{
-    if !is_readable(w) {
-        return false;
-    }
-    fits_in(n, w)
-}
-
 // A mark's word.
+#[tactic(auto, unfolding(crate::specs::Words::flag))]
 pub fn flag_of(b: bool) -> usize
     ensures { result ≡ flag b }
 {
-    if b { 1 } else { 0 }
+    usize::from(b)
 }
 
 // The words of what is held.
@@ -98,22 +101,22 @@ pub fn held_words(h: Option<Part>) -> [usize; 3]
 }
 
 // The nine words before the slots.
-fn front(s: State) -> [usize; 9]
-    ensures { result ≡ front_words s }
+#[tactic(auto, unfolding(crate::specs::Words::front_words), using(crate::proofs::Slots::held_depth))]
+pub fn front_words(f: Front) -> [usize; 9]
+    ensures { result ≡ front_words f }
 {
-    let marks = s.marks;
-    let held = s.held;
-    let h = held_words(held);
+    let marks = f.marks;
+    let h = held_words(f.held);
     [
-        s.place,
-        s.line,
+        f.place,
+        f.line,
         flag_of(marks.indent),
         flag_of(marks.value),
         flag_of(marks.multiline),
         h[0],
         h[1],
         h[2],
-        s.depth,
+        f.depth,
     ]
 }
 
@@ -130,7 +133,8 @@ pub fn paste(src: &[usize], at: usize, dst: &mut [usize])
     dst[at..at + src.len()].copy_from_slice(src);
 }
 
-// Writes the slots, two words each, after the nine.
+// Writes the slots, two words each, after the nine. parser_words has a loop like it for its sections: a function for
+// both would take a closure, a place and a bound, and be longer than the two.
 fn put_indents(indents: [Part; 64], w: &mut [usize])
     requires { tokenizer_size ≤ length w.old }
     ensures { w.new ≡ pasted (part_words indents) 9 w.old }
@@ -150,8 +154,8 @@ pub fn store(s: State, words: &mut [usize]) -> bool
         return false;
     }
     let indents = s.indents;
-    let f = front(s);
-    paste(&f, 0, words);
+    let front = front_words(s.front());
+    paste(&front, 0, words);
     put_indents(indents, words);
     true
 }
@@ -167,8 +171,9 @@ fn copy_state(src: &[usize], dst: &mut [usize])
     paste(&h, 5, dst);
 }
 
-// Stores at the front of dst the state of src: true; or false, with nothing written, where it is no state, or does not fit a document
-// of n bytes. The state never leaves its words: by value it would be copied more than once.
+// Stores at the front of dst the state of src (parser_words has the same of its state: a trait over the two would need
+// five functions, which are these): true; or false, with nothing written, where it is no state, or does not fit a
+// document of n bytes. The state never leaves its words: by value it would be copied more than once.
 pub fn restore(n: usize, src: &[usize], dst: &mut [usize]) -> bool
     ensures value { result ≡ (readable src.now && fit n (state_in src.now)) }
     ensures dst_after { dst.new ≡ cond result (stored_in (state_in src.now) dst.old) dst.old }

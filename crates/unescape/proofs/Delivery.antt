@@ -1,28 +1,22 @@
 -- A measured meaning is delivered as its measure says: the pieces make up no part, and a code that is shown lies within the text.
-use Prim.Native.Nat.{ℕ, ◌+◌, ◌≤◌, ◌<◌}
+use Prim.Native.Nat.{ℕ, ◌≤◌, ◌<◌}
 use mathlib.Core.Path.{◌≡◌, sym, ap}
 use mathlib.Core.List.{List}
 use native.Mathlib.Omega.{arith}
-use lib.ListN.{length, drop}
+use lib.ListN.{length}
 use borrow.Author.Tests.{le-leb, lt-leb}
 use Rattle.std.specs.Prelude.{Result, Ok, Err}
-use Rattle.text.specs.declared.bytes.Part.{Part}
 use Rattle.text.specs.declared.refusals.Refusal.TheVariants.{ShortBuffer}
-use Rattle.unescape_pieces.specs.Meaning.{Meaning, part, bytes, refused, meaning}
-use Rattle.unescape_pieces.specs.Pieces.{meaning_from, start_of}
+use Rattle.unescape_pieces.specs.Meaning.{Meaning, part, bytes, refused}
 use Rattle.unescape_pieces.specs.Cursor.{meaning_of, Shows}
 use Rattle.unescape_pieces.specs.declared.fault.Fault.{Fault}
-use Rattle.unescape_pieces.specs.declared.pieces.Spot.{Spot}
 use Rattle.unescape_pieces.specs.declared.cursor.Cursor.{Cursor}
-use Rattle.unescape_pieces.specs.declared.start.Style.{Style}
-use Rattle.unescape_pieces.specs.declared.start.Start.TheVariants.{Plain as Whole, Pieces}
-use Rattle.unescape_pieces.proofs.Starts.{part-means, pieces-mean}
 use Rattle.unescape_pieces.proofs.Ends.{Ends, pieces_end}
 use Rattle.unescape_source.specs.Source.{error}
 use Rattle.unescape.specs.Walk.{refusal, faulty, measured_of, WrittenFits, buffer_after}
 use Rattle.unescape.specs.Unescape.{Unescaped, kept_buffer, delivered}
 use Rattle.unescape.specs.declared.answer.Answer.{Answer}
-use Rattle.unescape.specs.declared.answer.Answer.TheVariants.{Plain, Written}
+use Rattle.unescape.specs.declared.answer.Answer.TheVariants.{Written}
 use Rattle.unescape.specs.declared.answer.Error.{Error}
 
 -- The meaning by its measure
@@ -61,18 +55,6 @@ module _ (k from line : ℕ) (o : List ℕ) where
 -- what is promised of an answer and a buffer
 pub promised : {u v : Unescaped} → u ≡ v → (v.answer ≡ u.answer) × (v.buffer ≡ u.buffer)
 promised q = (ap (λ (x : Unescaped). x.answer) (sym q), ap (λ (x : Unescaped). x.buffer) (sym q))
-
--- A text by what its reading begins with: its plain part, or its pieces
-
-module _ (style : Style) (s indent o : List ℕ) (from line : ℕ) where
-  pub plain-delivered : {p : Part} → start_of style s ≡ Whole p
-      → delivered (meaning style s indent) from line o ≡ kept_buffer (Ok (Plain (record { start = from + p.start; end = from + p.end }))) o
-  unfolding delivered
-  plain-delivered q = rw (part-means style s indent q)
-
-  pub pieces-delivered : {n : ℕ} {spot : Spot} → start_of style s ≡ Pieces n spot
-      → delivered (meaning style s indent) from line o ≡ delivered (meaning_from spot indent (drop n s) n) from line o
-  pieces-delivered q = ap (λ m. delivered m from line o) (pieces-mean style s indent q)
 
 -- The pieces from a cursor on, and what is answered of them
 

@@ -1,15 +1,13 @@
 -- A buffer whose first bytes are put there one after the other.
 use Prim.Native.Nat.{ℕ, suc, ◌+◌, ◌-◌, ◌≤◌, ◌<◌}
-use mathlib.Core.Path.{◌≡◌, refl, sym, ◌∙◌}
-use mathlib.Core.List.{List, [], ◌++◌, append_assoc, append-nil}
+use mathlib.Core.Path.{◌≡◌, sym, ◌∙◌}
+use mathlib.Core.List.{List, ◌++◌, append_assoc, append-nil}
 use native.Mathlib.Numerals.{add-one}
-use native.Mathlib.Nat.{sub-zero}
 use native.Mathlib.Omega.{arith}
-use lib.ListN.{length, take, drop, get_or, set, length-drop, length-append, drop_of_length-le, take-append-drop}
+use lib.ListN.{length, take, drop, get_or, set, length-drop, length-append, drop_of_length-le}
 use lib.Seq.{take-suc, drop-cons, set_at, drop-drop, take_at, drop_at, length-take-le}
 use Rattle.text.proofs.Front.{from}
 use Rattle.unescape_pieces.specs.Meaning.{Meaning, part, bytes, refused, written}
-use Rattle.unescape_pieces.specs.declared.fault.Fault.{Fault}
 use Rattle.unescape.specs.Walk.{WrittenFits, buffer_after}
 
 -- one byte more of s
@@ -53,9 +51,6 @@ pub record Wrote (total : List ℕ) (size : ℕ) (m : Meaning) (len : ℕ) (out 
   pub fits : WrittenFits m (length out - len)
   pub whole : total ≡ take len out ++ buffer_after m (drop len out)
 
-pub none_written : (m : Meaning) (o : List ℕ) → WrittenFits m (length o) → Wrote (buffer_after m o) (length o) m 0 o
-none_written m o h = record { same = refl; room = omega arith; fits = rw sub-zero h; whole = refl }
-
 module _ {total : List ℕ} {size : ℕ} {m : Meaning} {len : ℕ} {o : List ℕ} (c : Wrote total size m len o) (w : List ℕ) (n : Meaning) (e : m ≡ written w n) where
   pub has_room : len + length w ≤ length o
   has_room = omega (arith, c.room, fits-first w n (length o - len) (rw e at c.fits))
@@ -79,10 +74,3 @@ module _ {total : List ℕ} {size : ℕ} {m : Meaning} {len : ℕ} {o : List ℕ
   -- the same of a buffer o' that is that one, k being the length of w
   pub write-next : (o' : List ℕ) → o' ≡ put_at o len w → (k : ℕ) → k ≡ length w → Wrote total size n (len + k) o'
   write-next o' q k z = rw (q, z) write-more
-
-pub all-written : {total : List ℕ} {size : ℕ} {m : Meaning} {len : ℕ} {o : List ℕ} → Wrote total size m len o → m ≡ bytes [] → o ≡ total
-all-written {len = len} {o = o} c e = sym (c.whole ∙ rw (e, take-append-drop))
-
--- a meaning that writes nothing is none
-pub no-fault : {total : List ℕ} {size : ℕ} {m : Meaning} {len : ℕ} {o : List ℕ} {f : Fault} → Wrote total size m len o → m ≡ refused f → ⊥
-no-fault c e = rw e at c.fits

@@ -3,28 +3,28 @@ ghost use Rattle.std.specs.Prelude.{◌≡◌};
 ghost use Rattle.unescape.specs.Texts.{style_of, unescape_text_of};
 
 use crate::answer::{Answer, Error};
-use crate::tokens::rewrite;
+use crate::tokens::deliver;
 use text::{Refusal, SyntaxError};
 use tokenizer::State;
-use unescape_pieces::{Cursor, Start, Style, start_of};
+use unescape_pieces::Style;
 
-// How the text of a token of a kind is read: a key or a value, a multiline value, and any other. The kind is a number, as
-// a row from C has it.
+// How the text of a token of a kind is read: a key or a value, a multiline value, and any other. The kind is a number,
+// as a row from C has it.
 #[tactic(auto, unfolding(crate::specs::Texts::style_of))]
 pub fn style_of(kind: usize) -> Style
     ensures { result ≡ style_of kind }
 {
     match kind {
-        6 => Style::Entry,
-        7 => Style::Entry,
+        6 | 7 => Style::Entry,
         9 => Style::Block,
         _ => Style::AsIs,
     }
 }
 
 // The text, places counted from its start: 12 on line 0 where it or the indentation is over a document's limit; then
-// 8 to 11, then 14, on the given line. The buffer keeps every byte but those of a text that is written. Nothing is tested
-// for UTF-8: what is answered is UTF-8 where the text and the indentation are.
+// 8 to 11, then 14, on the given line. The buffer keeps every byte but those of a text that is written. Nothing is
+// tested for UTF-8: what is answered is UTF-8 where the text and the indentation are.
+#[tactic(auto, unfolding(crate::specs::Texts::unescape_text_of))]
 pub fn unescape_text(
     style: Style,
     text: &[u8],
@@ -41,16 +41,5 @@ pub fn unescape_text(
             line: 0,
         }));
     }
-    match start_of(style, text) {
-        Start::Plain(p) => Ok(Answer::Plain(p)),
-        Start::Pieces(at, spot) => {
-            let cursor = Cursor {
-                text,
-                indent,
-                at,
-                spot,
-            };
-            rewrite(cursor, 0, line, out)
-        }
-    }
+    deliver(style, text, indent, 0, line, out)
 }

@@ -1,13 +1,16 @@
 -- A token's kind says how it is read, and a token is unescaped as its text's bytes are: that is one meaning, delivered at
 -- the text's start and at 0.
 use Prim.Native.Nat.{ℕ}
-use mathlib.Core.Path.{◌≡◌, refl, sym, ◌∙◌}
+use mathlib.Core.Path.{◌≡◌, refl, sym}
 use mathlib.Core.List.{List}
 use native.Mathlib.Nat.{zero-add}
 use native.Mathlib.Omega.{arith}
 use lib.Dec.{leb}
 use lib.ListN.{length}
 use borrow.Author.Tests.{le-ltb}
+use mathlib.Core.Bool.{false}
+use lib.Dec.{ltb}
+use Rattle.std.specs.Prelude.{Ok}
 use Rattle.text.proofs.Cases.{by_bool}
 use Rattle.tokenizer.specs.Token.{token_values, line_of}
 use Rattle.tokenizer.specs.Step.{bytes_of}
@@ -25,12 +28,10 @@ use Rattle.tokenizer.specs.declared.token.Token.TheVariants.{
 }
 use Rattle.unescape_pieces.specs.Meaning.{Meaning, part, bytes, refused, meaning}
 use Rattle.unescape_pieces.specs.declared.fault.Fault.TheVariants.{InvalidEscape, EscapeAtEnd, ExtraCharacters, UnclosedQuotes}
-use Rattle.unescape_source.specs.Source.{source_of}
-use Rattle.unescape.specs.Unescape.{delivered}
-use Rattle.unescape.specs.Texts.{style_of}
+use Rattle.unescape_source.specs.Source.{source_of, source_in}
+use Rattle.unescape.specs.Unescape.{delivered, unescape_of}
+use Rattle.unescape.specs.Texts.{style_of, unescape_text_of}
 use Rattle.unescape_source.proofs.Sound.{sound-length, both-sound}
-use Rattle.unescape.proofs.Ruling.{ruled}
-use Rattle.unescape.proofs.Given.{text-within}
 use Rattle.unescape_claims.specs.ByText.{unescaped_from, KindsRead, TokensByText}
 
 pub kinds-read : KindsRead
@@ -57,10 +58,12 @@ from_start (refused ExtraCharacters) n l o = refl
 from_start (refused UnclosedQuotes) n l o = refl
 
 pub tokens-by-text : TokensByText
+unfolding unescape_of unescape_text_of
 tokens-by-text d t o h e f =
     let w = source_of t in
     let s = bytes_of d w.text in
     let i = bytes_of d w.indent in
-    ruled d t o (sym (both-sound d t w refl h refl refl (rw (e, f)))) refl
-    ∙ from_start (meaning w.style s i) w.text.start (line_of t) o
-    ∙ rw (text-within w.style s i (line_of t) o (rw (le-ltb 16777216 (length s) (omega (arith, sound-length d w.text e)), le-ltb 16777216 (length i) (omega (arith, sound-length d w.indent f)))))
+    let q : source_in d t ≡ Ok w = sym (both-sound d t w refl h refl refl (rw (e, f))) in
+    let j : ltb 16777216 (length s) ≡ false = le-ltb 16777216 (length s) (omega (arith, sound-length d w.text e)) in
+    let k : ltb 16777216 (length i) ≡ false = le-ltb 16777216 (length i) (omega (arith, sound-length d w.indent f)) in
+    rw (q, j, k) (from_start (meaning w.style s i) w.text.start (line_of t) o)

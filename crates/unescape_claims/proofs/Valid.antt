@@ -21,7 +21,7 @@ use Rattle.utf8.specs.Scalar.{encoding}
 use Rattle.utf8.specs.Utf8.{owes, utf8}
 use Rattle.text.proofs.Cases.{on-cond, and_left, and_right}
 use Rattle.utf8.proofs.Joins.{utf8_append, utf8_drop, utf8-cut, utf8-snoc}
-use Rattle.utf8.proofs.Unicode.{utf8-ascii, utf8-encoding}
+use Rattle.utf8.proofs.Unicode.{utf8_ascii, utf8-encoding}
 use Rattle.unescape_codes.specs.Codes.{simple_of}
 use Rattle.unescape_codes.proofs.Cases.{on-option}
 use Rattle.unescape_pieces.specs.declared.fault.Fault.{Fault}
@@ -122,8 +122,8 @@ keeps (b ∷ r) (escape s) n = λ u.
     (λ t. keeps r (brace s []) (n + 1) (found [] b 123 r t (omega arith) u).1)
     (λ _. on-option (Writes []) (simple_of b)
     (λ v t. let k = simple b v t in
-    let m = keeps r plain (n + 1) [] (sym (utf8-ascii b r k.0) ∙ u) in
-    replaced (v ∷ []) (λ x. utf8-ascii v x k.1) m)
+    let m = keeps r plain (n + 1) [] (sym (utf8_ascii b r k.0) ∙ u) in
+    replaced (v ∷ []) (λ x. utf8_ascii v x k.1) m)
     (λ _. none))
 keeps (b ∷ r) (brace s h) n = λ u.
     on-cond (Writes []) (eqb b 125)
@@ -210,7 +210,7 @@ module _ (indent : List ℕ) (i : utf8 indent ≡ true) where
   unfolding later_lines
   later-valid [] h = utf8_nil
   later-valid (l ∷ ls) h =
-      utf8-ascii 10 (without indent l [] ++ later_lines indent ls) (omega arith)
+      utf8_ascii 10 (without indent l [] ++ later_lines indent ls) (omega arith)
       ∙ utf8_append (without indent l []) (later_lines indent ls) (without-valid l [] h.0 utf8_nil) ∙ later-valid ls h.1
 
   joined-valid : (ls : List (List ℕ)) → Lines [] ls → utf8 (joined_lines indent ls) ≡ true

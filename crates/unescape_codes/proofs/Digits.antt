@@ -12,9 +12,9 @@ use Rattle.utf8.specs.Utf8.{within}
 use Rattle.unescape_codes.specs.Codes.{digit_of, digits_from}
 
 -- a digit is below 16
-pub digit-16 : (b d : ℕ) → digit_of b ≡ Some d → d < 16
+pub digit_16 : (b d : ℕ) → digit_of b ≡ Some d → d < 16
 unfolding digit_of within
-digit-16 b d e = grind arith
+digit_16 b d e = grind arith
 
 -- n is the number of the digits before i
 module _ (h : List ℕ) (i n : ℕ) where

@@ -11,6 +11,7 @@ fn digit(b: u8) -> Option<u32>
 }
 
 // The number that up to 8 hexadecimal digits make.
+#[tactic(auto, using(crate::proofs::Digits::bad, crate::proofs::Digits::end))]
 fn digits_value(h: &[u8]) -> Option<u32>
     requires { length h.now ≤ 8 }
     ensures { result ≡ digits_from 0 h.now }
@@ -27,13 +28,10 @@ fn digits_value(h: &[u8]) -> Option<u32>
 pub fn code_of(h: &[u8]) -> Option<u32>
     ensures { result ≡ code_of h.now }
 {
-    if h.is_empty() {
-        return None;
+    match h.len() {
+        1..=8 => digits_value(h),
+        _ => None,
     }
-    if 8 < h.len() {
-        return None;
-    }
-    digits_value(h)
 }
 
 // The byte that a backslash and b stand for.

@@ -6,7 +6,7 @@ use lib.Dec.{eqb}
 use lib.ListN.{length, drop, length-drop}
 use Rattle.utf8.specs.Scalar.{encoding}
 use Rattle.text.proofs.Cases.{on-cond}
-use Rattle.utf8.proofs.Chars.{char_len-le}
+use Rattle.utf8.proofs.Chars.{char_len_le}
 use Rattle.unescape_codes.specs.Codes.{simple_of}
 use Rattle.unescape_codes.proofs.Cases.{on-option}
 use Rattle.unescape_pieces.specs.Meaning.{Meaning, part, bytes, refused, written, scalar_in, Mode, plain, escape, brace, closed, quoted}
@@ -66,7 +66,7 @@ quoted-ends (b ∷ r) (escape s) n h =
     (λ _. ends_more k (n + 1 + length r) (quoted r (brace s []) (n + 1)) (omega arith) (quoted-ends r (brace s []) (n + 1) (omega arith)))
     (λ _. on-option (Ends k) (simple_of b)
     (λ v _. written-ends k (n + 1 + length r) (v ∷ []) (quoted r plain (n + 1)) (omega arith) (quoted-ends r plain (n + 1) tt))
-    (λ _. (omega arith, omega (arith, char_len-le (b ∷ r)))))
+    (λ _. (omega arith, omega (arith, char_len_le (b ∷ r)))))
 quoted-ends (b ∷ r) (brace s l) n h =
     let k = n + length (b ∷ r) in
     on-cond (Ends k) (eqb b 125)

@@ -14,10 +14,9 @@ use Rattle.text.specs.declared.bytes.Part.{Part}
 use Rattle.text.proofs.Cases.{by_bool, on-cond, and_left}
 use Rattle.std.proofs.lemmas.List.Sums.{prefix_len-le-length}
 use Rattle.unescape_pieces.specs.Meaning.{part, all_literal, simply_quoted, entry_meaning, block_meaning, meaning}
-use Rattle.unescape_pieces.specs.Pieces.{is_literal, entry_start, block_start, start_of, begun, meaning_from}
+use Rattle.unescape_pieces.specs.Pieces.{is_literal, entry_start, block_start, start_of, begun, meaning_from, Lies}
 use Rattle.unescape_pieces.specs.declared.start.Style.{Style}
 use Rattle.unescape_pieces.specs.declared.start.Style.TheVariants.{AsIs, Entry, Block}
-use Rattle.unescape_pieces.specs.declared.start.Start.{Start}
 use Rattle.unescape_pieces.specs.declared.start.Start.TheVariants.{Plain, Pieces}
 use Rattle.unescape_pieces.specs.declared.pieces.Spot.{Spot}
 use Rattle.unescape_pieces.proofs.Escapes.{neither}
@@ -66,16 +65,11 @@ block-begun : (indent s : List ℕ) → block_meaning indent s ≡ begun (block_
 unfolding block_meaning block_start meaning_from
 block-begun indent s = by_bool (eqb (line_end s) (length s)) (λ e. rw e) (λ e. rw e)
 
-pub begun-law : (style : Style) (s indent : List ℕ) → meaning style s indent ≡ begun (start_of style s) indent s
+pub begun_law : (style : Style) (s indent : List ℕ) → meaning style s indent ≡ begun (start_of style s) indent s
 unfolding meaning start_of
-begun-law AsIs s indent = refl
-begun-law Entry s indent = entry-begun indent s
-begun-law Block s indent = block-begun indent s
-
--- both ends of a plain part, and the place of the first piece, lie within the text
-abbrev pub Lies : Start → List ℕ → Type 0
-Lies (Plain p) s = (p.start ≤ p.end) × (p.end ≤ length s)
-Lies (Pieces n spot) s = n ≤ length s
+begun_law AsIs s indent = refl
+begun_law Entry s indent = entry-begun indent s
+begun_law Block s indent = block-begun indent s
 
 entry-lies : (s : List ℕ) → Lies (entry_start s) s
 unfolding entry_start
@@ -99,13 +93,13 @@ lies Block s = on-cond (λ x. Lies x s) (eqb (line_end s) (length s)) (λ e. (om
 
 module _ (style : Style) (s : List ℕ) where
   pub part-means : {p : Part} (indent : List ℕ) → start_of style s ≡ Plain p → meaning style s indent ≡ part p.start p.end
-  part-means indent q = begun-law style s indent ∙ ap (λ x. begun x indent s) q
+  part-means indent q = begun_law style s indent ∙ ap (λ x. begun x indent s) q
 
   pub part_lies : {p : Part} → start_of style s ≡ Plain p → (p.start ≤ p.end) × (p.end ≤ length s)
   part_lies q = subst (λ x. Lies x s) q (lies style s)
 
   pub pieces-mean : {n : ℕ} {spot : Spot} (indent : List ℕ) → start_of style s ≡ Pieces n spot → meaning style s indent ≡ meaning_from spot indent (drop n s) n
-  pieces-mean indent q = begun-law style s indent ∙ ap (λ x. begun x indent s) q
+  pieces-mean indent q = begun_law style s indent ∙ ap (λ x. begun x indent s) q
 
   pub pieces-lie : {n : ℕ} {spot : Spot} → start_of style s ≡ Pieces n spot → n ≤ length s
   pieces-lie q = subst (λ x. Lies x s) q (lies style s)

@@ -5,7 +5,7 @@ use mathlib.Core.List.{List, [], ◌∷◌}
 use native.Mathlib.Nat.{sub-zero}
 use native.Mathlib.Omega.{arith}
 use lib.ListN.{length, take, drop, length-drop}
-use lib.Seq.{drop-drop, take-nil, take-take, length-take-le}
+use lib.Seq.{drop-drop, take-nil, take-take}
 use Rattle.std.specs.Prelude.{Some, Ok}
 use Rattle.unescape_pieces.specs.Pieces.{next_of, meaning_from}
 use Rattle.unescape_pieces.specs.Cursor.{weight}
@@ -37,19 +37,11 @@ module _ (indent s : List ℕ) (at : ℕ) (spot : Spot) where
         moved (Run k) m = let d = length-drop at s in record { within = omega arith; falls = omega arith }
         moved (Scalar c) m = let d = length-drop at s in record { within = omega arith; falls = omega arith }
 
--- The bytes of a run, as the code slices them
-
 drop-take : (k n : ℕ) (l : List ℕ) → drop k (take n l) ≡ take (n - k) (drop k l)
 drop-take zero n l = rw sub-zero
 drop-take (suc k) zero l = let z : 0 - suc k ≡ 0 = omega arith in rw z
 drop-take (suc k) (suc n) [] = sym (take-nil (suc n - suc k))
 drop-take (suc k) (suc n) (b ∷ l) = let z : suc n - suc k ≡ n - k = omega arith in rw z (drop-take k n l)
-
-pub run-bytes : (s : List ℕ) (at k n : ℕ) → take (at + n - (at + k)) (drop (at + k) s) ≡ drop k (take n (drop at s))
-run-bytes s at k n = let z : at + n - (at + k) ≡ n - k = omega arith in rw (z, drop-take, drop-drop)
-
-pub run_length : (s : List ℕ) (at k n : ℕ) → at + n ≤ length s → length (drop k (take n (drop at s))) ≡ n - k
-run_length s at k n h = rw (length-drop, length-take-le n (drop at s) (rw length-drop (omega arith)))
 
 -- a part of a part, as a part of the document
 pub nested-part : (d : List ℕ) (n m a e : ℕ) → a ≤ e → e ≤ m → take (n + e - (n + a)) (drop (n + a) d) ≡ take (e - a) (drop a (take m (drop n d)))

@@ -17,7 +17,7 @@ use Rattle.utf8.specs.Scalar.{is_scalar, encoding, encoding_of}
 use Rattle.utf8.specs.Utf8.{char_len}
 use Rattle.text.proofs.Cases.{by_bool, on-cond, clash}
 use Rattle.unescape_codes.proofs.Cases.{by_option, on-option}
-use Rattle.utf8.proofs.Chars.{char_len-le}
+use Rattle.utf8.proofs.Chars.{char_len_le}
 use Rattle.text.proofs.Front.{break-le}
 use Rattle.text.proofs.Prefix.{short}
 use Rattle.std.proofs.lemmas.List.Sums.{prefix_len-le-length}
@@ -163,7 +163,7 @@ escape_steps b (c ∷ r) =
     (λ e. brace-steps b c r (prefix_len in_brace r) (prefix_len-le-length in_brace r))
     (λ e. on-option (Stepped Quotes (b ∷ c ∷ r)) (simple_of c)
     (λ v f. (omega arith, omega arith, omega arith))
-    (λ f. (omega arith, omega (arith, char_len-le (c ∷ r)))))
+    (λ f. (omega arith, omega (arith, char_len_le (c ∷ r)))))
 
 some-bare : (b : ℕ) (r : List ℕ) → eqb b 34 ≡ false → eqb b 92 ≡ false → 0 < prefix_len is_literal (b ∷ r)
 some-bare b r e f = rw (e, f) (omega arith)

@@ -21,9 +21,9 @@ meaning_of c = meaning_from c.spot c.indent.now (drop c.at c.text.now) c.at
 abbrev pub left : Cursor → ℕ
 left c = length c.text.now - c.at
 
--- what falls from piece to piece: twice the bytes left, and one more where a line stands
+-- what falls from item to item: twice the bytes left, and one more but behind a line
 abbrev pub weight : Spot → ℕ
-weight Quotes = 0
+weight Quotes = 1
 weight FirstLine = 1
 weight LaterLine = 1
 weight Break = 0
@@ -58,8 +58,8 @@ pub record Passes (c d : Cursor) (p : Bytes) : Type 0 where
   pub falls : size d < size c
   pub few : length (slice_of p) + 4 * left d ≤ 4 * left c
 
--- what is answered at a cursor c, d being the cursor after it: a piece, the end of the text, or why it means nothing
-abbrev pub Comes : Cursor → Result (Option Bytes) Fault → Cursor → Type 0
-Comes c (Ok (Some p)) d = Passes c d p
-Comes c (Ok None) d = meaning_of c ≡ bytes []
-Comes c (Err f) d = meaning_of c ≡ refused f
+-- what comes at a cursor c, d being the cursor after it: a piece, or why the text means nothing, which is the last, or the end
+abbrev pub Comes : Cursor → Option (Result Bytes Fault) → Cursor → Type 0
+Comes c (Some (Ok p)) d = Passes c d p
+Comes c (Some (Err f)) d = (meaning_of c ≡ refused f) × (meaning_of d ≡ bytes [])
+Comes c None d = meaning_of c ≡ bytes []

@@ -1,7 +1,7 @@
 -- Intermediate: document 01's 'Unescaping' piece by piece, as the code is written: what stands at a cursor of a text,
 -- how many bytes are passed with it, and what stands after them. proofs/Starts and proofs/Walking show that the pieces
 -- together are the meaning.
-use Rattle.std.specs.Prelude.{ℕ, ◌+◌, List, [], ◌∷◌, ◌++◌, Bool, true, false, cond, not, ◌&&◌, ◌||◌, eqb, ltb, length, take, drop, get_or, Option, Some, None, Result, Ok, Err}
+use Rattle.std.specs.Prelude.{ℕ, ◌+◌, ◌≤◌, List, [], ◌∷◌, ◌++◌, Bool, true, false, cond, not, ◌&&◌, ◌||◌, eqb, ltb, length, take, drop, get_or, Option, Some, None, Result, Ok, Err}
 use Rattle.std.specs.Option.{option_map_or}
 use Prim.Native.Char.{code as byte}
 use Rattle.text.specs.Bytes.{line_end, break_size, starts_with, part as part_of, shifted_by}
@@ -134,3 +134,8 @@ start_of Block s = block_start s
 abbrev pub begun : Start → List ℕ → List ℕ → Meaning
 begun (Plain p) indent s = part p.start p.end
 begun (Pieces n spot) indent s = meaning_from spot indent (drop n s) n
+
+-- both ends of a plain part, and the place of the first piece, lie within the text
+abbrev pub Lies : Start → List ℕ → Type 0
+Lies (Plain p) s = (p.start ≤ p.end) × (p.end ≤ length s)
+Lies (Pieces n spot) s = n ≤ length s

@@ -1,5 +1,5 @@
 // One piece of an unescaped text at a time, given what stands at a place of the text and the bytes from there on.
-ghost use Rattle.std.specs.Prelude.{◌≡◌};
+ghost use Rattle.std.specs.Prelude.{◌≡◌, ◌≤◌, length};
 ghost use Rattle.std.specs.List.{prefix_len};
 ghost use Rattle.unescape_pieces.specs.Meaning.{scalar_in};
 ghost use Rattle.unescape_pieces.specs.Pieces.{
@@ -49,7 +49,8 @@ pub struct Next {
 
 // How many bytes stand before the first `"` or `stop`.
 pub(crate) fn len_before(stop: u8, s: &[u8]) -> usize
-    ensures { result ≡ prefix_len (is_before stop) s.now }
+    ensures value { result ≡ prefix_len (is_before stop) s.now }
+    ensures within { result ≤ length s.now }
 {
     s.iter()
         .take_while(|b| !(**b == b'"' || **b == stop))
@@ -74,6 +75,7 @@ fn scalar_in(h: &[u8]) -> Option<u32>
 }
 
 // An escape whose backslash and `{` stand before s.
+#[tactic(auto, unfolding(crate::specs::Pieces::brace_next))]
 fn brace_next(s: &[u8]) -> Result<Option<Next>, Fault>
     ensures { result ≡ brace_next s.now }
 {
@@ -95,14 +97,15 @@ fn brace_next(s: &[u8]) -> Result<Option<Next>, Fault>
 }
 
 // An escape whose backslash stands before s.
+#[tactic(auto, unfolding(crate::specs::Pieces::escape_next))]
 fn escape_next(s: &[u8]) -> Result<Option<Next>, Fault>
     ensures { result ≡ escape_next s.now }
 {
-    let Some(&b) = s.first() else {
+    let Some((&b, rest)) = s.split_first() else {
         return Err(Fault::EscapeAtEnd);
     };
     if b == OPENING {
-        return brace_next(&s[1..]);
+        return brace_next(rest);
     }
     let Some(code) = simple_of(b) else {
         return invalid(1 + utf8::char_len(s));
@@ -115,14 +118,15 @@ fn escape_next(s: &[u8]) -> Result<Option<Next>, Fault>
 }
 
 // The characters in quotes, the opening one passed.
+#[tactic(auto, unfolding(crate::specs::Pieces::quoted_next, crate::specs::Meaning::is_empty))]
 fn quoted_next(s: &[u8]) -> Result<Option<Next>, Fault>
     ensures { result ≡ quoted_next s.now }
 {
-    let Some(&b) = s.first() else {
+    let Some((&b, rest)) = s.split_first() else {
         return Err(Fault::UnclosedQuotes);
     };
     if b == b'\\' {
-        return escape_next(&s[1..]);
+        return escape_next(rest);
     }
     if b != b'"' {
         return Ok(Some(Next {
@@ -131,7 +135,7 @@ fn quoted_next(s: &[u8]) -> Result<Option<Next>, Fault>
             spot: Spot::Quotes,
         }));
     }
-    if s.len() < 2 {
+    if rest.is_empty() {
         Ok(None)
     } else {
         Err(Fault::ExtraCharacters)
@@ -157,8 +161,9 @@ fn line_next(later: bool, indent: &[u8], s: &[u8]) -> Next
     }
 }
 
-// The size of the break that s begins with, where it opens a line, else 0: a final LF, or CR LF, opens none, a final CR an
-// empty one.
+// The size of the break that s begins with, where it opens a line, else 0: a final LF, or CR LF, opens none, a final CR
+// an empty one.
+// A length, which is added to a place.
 #[tactic(auto, unfolding(crate::specs::Pieces::opened_by))]
 fn opening(s: &[u8]) -> usize
     ensures { result ≡ opened_by s.now }
@@ -170,7 +175,7 @@ fn opening(s: &[u8]) -> usize
     if n != 1 {
         return 0;
     }
-    if s[0] == b'\r' { 1 } else { 0 }
+    if s.first() == Some(&b'\r') { 1 } else { 0 }
 }
 
 // The LF before a later line, or the end of the lines.

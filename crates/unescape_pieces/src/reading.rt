@@ -1,11 +1,11 @@
 // Reading a text piece by piece.
 ghost use Rattle.std.specs.Prelude.{◌≡◌, ◌-◌};
 ghost use Rattle.unescape_pieces.specs.Pieces.{fault_at};
-ghost use Rattle.unescape_pieces.specs.Cursor.{Shows, piece_bytes, Skips, slice_of, Comes};
+ghost use Rattle.unescape_pieces.specs.Cursor.{Shows, piece_bytes, Skips, slice_of};
 
 use crate::cursor::{Bytes, Cursor};
 use crate::fault::Fault;
-use crate::pieces::{Piece, next_piece};
+use crate::pieces::{Piece, Spot, next_piece};
 use text::Part;
 
 // A fault of the bytes from `at` on, as one of the text.
@@ -23,6 +23,7 @@ fn placed(fault: Fault, at: usize) -> Fault
 }
 
 // The bytes of a piece, `passed` being those that are passed with it.
+#[tactic(auto, using(utf8::proofs::Encodings::encoded_bytes))]
 fn bytes_of<'a>(piece: Piece, passed: &'a [u8]) -> Bytes<'a>
     requires { Skips piece passed.now }
     ensures { slice_of result ≡ piece_bytes piece passed.now }
@@ -44,24 +45,33 @@ impl<'a> Bytes<'a> {
     }
 }
 
-impl<'a> Cursor<'a> {
-    // The piece at the cursor, which moves behind it; None at the end of the text.
-    pub fn next(&mut self) -> Result<Option<Bytes<'a>>, Fault>
-        ensures { Comes self.old result self.new }
-    {
+impl<'a> Iterator for Cursor<'a> {
+    ghost use Rattle.std.specs.Iterator.{at_most};
+    ghost use Rattle.unescape_pieces.specs.Cursor.{Comes, size};
+
+    type Item = Result<Bytes<'a>, Fault>;
+
+    ghost next_gives = { Comes };
+
+    ghost remaining = { λ c. at_most (size c) };
+
+    // The piece at the cursor, which moves behind it; None at the end of the text. A fault is the last that comes.
+    fn next(&mut self) -> Option<Result<Bytes<'a>, Fault>> {
         let at = self.at;
         let text = self.text;
         let rest = &text[at..];
         let found = match next_piece(self.spot, self.indent, rest) {
             Ok(found) => found,
-            Err(fault) => return Err(placed(fault, at)),
+            Err(fault) => {
+                self.at = text.len();
+                self.spot = Spot::Break;
+                return Some(Err(placed(fault, at)));
+            }
         };
-        let Some(next) = found else {
-            return Ok(None);
-        };
+        let next = found?;
         let passed = &rest[..next.pass];
         self.at = at + next.pass;
         self.spot = next.spot;
-        Ok(Some(bytes_of(next.piece, passed)))
+        Some(Ok(bytes_of(next.piece, passed)))
     }
 }

@@ -2,7 +2,7 @@
 ghost use Rattle.std.specs.Prelude.{◌≡◌};
 ghost use Rattle.text.specs.Bytes.{part};
 ghost use Rattle.unescape_pieces.specs.declared.start.Start.TheVariants.{Plain};
-ghost use Rattle.unescape_pieces.specs.Pieces.{entry_start, block_start, start_of};
+ghost use Rattle.unescape_pieces.specs.Pieces.{entry_start, block_start, start_of, Lies};
 
 use crate::pieces::{Spot, len_before};
 use text::Part;
@@ -15,7 +15,8 @@ pub enum Style {
     Block,
 }
 
-// What becomes of a text: a part of it is plain, or it is written piece by piece from a place on.
+// What becomes of a text: a part of it is plain, or it is written piece by piece from a place on. A Cursor in place of
+// the place would bring the lent bytes into the rule, which goes by bytes alone.
 #[derive(Clone, Copy)]
 pub enum Start {
     Plain(Part),
@@ -29,17 +30,19 @@ fn plain(start: usize, end: usize) -> Start
     Start::Plain(Part { start, end })
 }
 
-// A key or a value: plain without quotes, or with quotes at both ends and nothing between them that has to be unescaped.
+// A key or a value: plain without quotes, or with quotes at both ends and nothing between that has to be unescaped.
+#[tactic(auto, unfolding(crate::specs::Pieces::entry_start))]
 fn entry_start(s: &[u8]) -> Start
-    ensures { result ≡ entry_start s.now }
+    ensures value { result ≡ entry_start s.now }
+    ensures within { Lies result s.now }
 {
-    let Some(&b) = s.first() else {
+    let Some((&b, rest)) = s.split_first() else {
         return plain(0, 0);
     };
     if b != b'"' {
         return plain(0, s.len());
     }
-    let end = 1 + len_before(b'\\', &s[1..]);
+    let end = 1 + len_before(b'\\', rest);
     if end + 1 != s.len() {
         return Start::Pieces(1, Spot::Quotes);
     }
@@ -53,7 +56,8 @@ fn entry_start(s: &[u8]) -> Start
 // A multiline value: plain without CR or LF.
 #[tactic(auto, unfolding(crate::specs::Pieces::block_start))]
 fn block_start(s: &[u8]) -> Start
-    ensures { result ≡ block_start s.now }
+    ensures value { result ≡ block_start s.now }
+    ensures within { Lies result s.now }
 {
     if text::line_end(s) == s.len() {
         plain(0, s.len())
@@ -65,7 +69,8 @@ fn block_start(s: &[u8]) -> Start
 // What becomes of a text, by how it is read.
 #[tactic(auto, unfolding(crate::specs::Pieces::start_of))]
 pub fn start_of(style: Style, s: &[u8]) -> Start
-    ensures { result ≡ start_of style s.now }
+    ensures value { result ≡ start_of style s.now }
+    ensures within { Lies result s.now }
 {
     match style {
         Style::AsIs => plain(0, s.len()),

@@ -1,5 +1,5 @@
 -- A sound part lies within the document, and what is known of a source that may be read.
-use Prim.Native.Nat.{ℕ, ◌+◌, ◌-◌, ◌≤◌, ◌<◌}
+use Prim.Native.Nat.{ℕ, ◌+◌, ◌-◌, ◌≤◌}
 use mathlib.Core.Path.{◌≡◌, refl}
 use mathlib.Core.List.{List}
 use mathlib.Core.Bool.{Bool, true, false, cond, ◌&&◌}
@@ -7,7 +7,7 @@ use native.Mathlib.Omega.{arith}
 use lib.Dec.{leb, ltb}
 use lib.ListN.{length, drop, length-drop}
 use lib.Seq.{length-take-le}
-use borrow.Author.Tests.{leb-true, lt-ltb, le-ltb, ltb-false}
+use borrow.Author.Tests.{leb-true, le-ltb, ltb-false}
 use Rattle.utf8.specs.Utf8.{utf8}
 use Rattle.text.specs.declared.bytes.Part.{Part}
 use Rattle.text.proofs.Cases.{and_left, and_right}
@@ -34,19 +34,11 @@ sound-length d p e =
 -- The branches of `source_in`
 
 module _ (d : List ℕ) (t : Token) where
-  pub over : 16777216 < length d → Err (error TooLong 0) ≡ source_in d t
-  unfolding source_in
-  over h = rw (lt-ltb 16777216 (length d) h)
-
   module _ (x : Source) (q : x ≡ source_of t) (h : length d ≤ 16777216) where
     module _ {a b : Bool} (f : a ≡ sound d x.text) (g : b ≡ sound d x.indent) where
       pub both-sound : (a && b) ≡ true → Ok x ≡ source_in d t
       unfolding source_in
       both-sound e = rw (← q, le-ltb 16777216 (length d) h, ← f, ← g, e)
-
-      pub not_sound : {l : ℕ} → (a && b) ≡ false → l ≡ line_of t → Err (error UnfitToken l) ≡ source_in d t
-      unfolding source_in
-      not_sound e z = rw (← q, le-ltb 16777216 (length d) h, ← f, ← g, e, z)
 
   -- of a source that may be read
   pub record Read (w : Source) : Type 0 where

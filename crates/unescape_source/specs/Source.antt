@@ -1,6 +1,6 @@
 -- Law: document 01, 'Unescaping' and 'Numbers by the place where they are checked': a token's text and how it is read, and
 -- whether it may be read: 12, then 13.
-use Rattle.std.specs.Prelude.{ℕ, List, Bool, cond, ◌&&◌, ltb, length, Result, Ok, Err}
+use Rattle.std.specs.Prelude.{ℕ, ◌≤◌, List, Bool, cond, ◌&&◌, ltb, length, Result, Ok, Err}
 use Rattle.text.specs.Numbers.{max_document}
 use Rattle.text.specs.declared.refusals.Refusal.{Refusal}
 use Rattle.text.specs.declared.refusals.Refusal.TheVariants.{TooLong, UnfitToken}
@@ -61,3 +61,7 @@ source_in d t =
     let w = source_of t in
     cond (ltb max_document (length d)) (Err (error TooLong 0))
     (cond (sound d w.text && sound d w.indent) (Ok w) (Err (error UnfitToken (line_of t))))
+
+-- its parts lie within a document of n bytes, which is within the limit
+abbrev pub Lies : ℕ → Source → Type 0
+Lies n w = (w.text.start ≤ w.text.end) × (w.text.end ≤ n) × (w.indent.start ≤ w.indent.end) × (w.indent.end ≤ n) × (n ≤ max_document)

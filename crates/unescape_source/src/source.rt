@@ -1,11 +1,11 @@
 // A token's text, how it is read, and whether it may be read.
-ghost use Rattle.std.specs.Prelude.{◌≡◌};
+ghost use Rattle.std.specs.Prelude.{◌≡◌, ◌≤◌, IsTrue, IfOk, length};
 ghost use Rattle.tokenizer.specs.Step.{no_part};
 ghost use Rattle.unescape_pieces.specs.declared.start.Style.TheVariants.{AsIs};
-ghost use Rattle.unescape_source.specs.Source.{source_at as worded_as, source_of, sound, source_in};
+ghost use Rattle.unescape_source.specs.Source.{source_at as worded_as, source_of, sound, source_in, Lies};
 
 use text::{Part, Refusal, SyntaxError};
-use tokenizer::{State, Token};
+use tokenizer::{State, Token, part_fits};
 use unescape_pieces::Style;
 
 // A token's text, the empty part at 0 where it has none, and a multiline value's indentation.
@@ -40,42 +40,35 @@ pub fn source_of(t: Token) -> Source
     ensures { result ≡ source_of t }
 {
     match t {
-        Token::Comment(_, p) => source_at(Style::AsIs, p),
-        Token::MapKey(_, p) => source_at(Style::Entry, p),
-        Token::Value(_, p) => source_at(Style::Entry, p),
-        Token::MultilineHint(_, p) => source_at(Style::AsIs, p),
+        Token::Comment(_, p) | Token::MultilineHint(_, p) => source_at(Style::AsIs, p),
+        Token::MapKey(_, p) | Token::Value(_, p) => source_at(Style::Entry, p),
         Token::MultilineValue(_, indent, p) => Source {
             style: Style::Block,
             text: p,
             indent,
         },
-        Token::Newline(_) => no_source(),
-        Token::Indent(_) => no_source(),
-        Token::Outdent(_, _) => no_source(),
-        Token::ListItem(_) => no_source(),
-        Token::NoValue(_) => no_source(),
+        Token::Newline(_)
+        | Token::Indent(_)
+        | Token::Outdent(_, _)
+        | Token::ListItem(_)
+        | Token::NoValue(_) => no_source(),
     }
 }
 
 // Whether p is a part of the document, and UTF-8.
 #[tactic(auto, unfolding(crate::specs::Source::sound))]
 fn is_sound(doc: &[u8], p: Part) -> bool
-    ensures { result ≡ sound doc.now p }
+    ensures value { result ≡ sound doc.now p }
+    ensures within { IsTrue result → (p.start ≤ p.end) × (p.end ≤ length doc.now) }
 {
-    let start = p.start;
-    let end = p.end;
-    if end < start {
-        return false;
-    }
-    if doc.len() < end {
-        return false;
-    }
-    utf8::is_utf8(&doc[start..end])
+    part_fits(p, doc.len()) && utf8::is_utf8(&doc[p.start..p.end])
 }
 
 // The source of a token: 12 over the document's limit, 13 where a part of it is none of the document's, or not UTF-8.
+#[tactic(auto, unfolding(crate::specs::Source::source_in))]
 pub fn source_in(t: Token, doc: &[u8]) -> Result<Source, SyntaxError>
-    ensures { result ≡ source_in doc.now t }
+    ensures value { result ≡ source_in doc.now t }
+    ensures within { IfOk result (Lies (length doc.now)) }
 {
     if State::MAX_DOCUMENT < doc.len() {
         return Err(SyntaxError {
@@ -84,9 +77,7 @@ pub fn source_in(t: Token, doc: &[u8]) -> Result<Source, SyntaxError>
         });
     }
     let w = source_of(t);
-    let text = w.text;
-    let indent = w.indent;
-    if is_sound(doc, text) & is_sound(doc, indent) {
+    if is_sound(doc, w.text) & is_sound(doc, w.indent) {
         return Ok(w);
     }
     Err(SyntaxError {

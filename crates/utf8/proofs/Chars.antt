@@ -13,12 +13,12 @@ use Rattle.utf8.specs.declared.utf8.Lead.{Lead}
 use Rattle.std.specs.Prelude.{Option, Some, None}
 
 -- the continuations that are found are part of the text
-pub followed-le : (n low high : ℕ) (s : List ℕ) → followed n low high s ≡ true → n ≤ length s
+pub followed_le : (n low high : ℕ) (s : List ℕ) → followed n low high s ≡ true → n ≤ length s
 unfolding followed
-followed-le zero low high s e = omega arith
-followed-le (suc n) low high [] e = absurd (false≢true e)
-followed-le (suc n) low high (b ∷ r) e =
-    let k = followed-le n 0x80 0xBF r ((and-eq-true_iff (within low high b) _).0 e).1 in
+followed_le zero low high s e = omega arith
+followed_le (suc n) low high [] e = absurd (false≢true e)
+followed_le (suc n) low high (b ∷ r) e =
+    let k = followed_le n 0x80 0xBF r ((and-eq-true_iff (within low high b) _).0 e).1 in
     omega arith
 
 -- what is owed is the continuations and then a well-formed text
@@ -29,14 +29,14 @@ owes-split zero low high (b ∷ r) = refl
 owes-split (suc n) low high [] = refl
 owes-split (suc n) low high (b ∷ r) = rw (owes-split n 0x80 0xBF r, and_assoc)
 
-pub char_len-le : (s : List ℕ) → char_len s ≤ length s
+pub char_len_le : (s : List ℕ) → char_len s ≤ length s
 unfolding char_len
-char_len-le [] = omega arith
-char_len-le (b ∷ r) = after (lead_of b)
+char_len_le [] = omega arith
+char_len_le (b ∷ r) = after (lead_of b)
   where
     after : (l : Option Lead) → len_after l r ≤ suc (length r)
     after None = omega arith
-    after (Some l) = found (followed l.more l.low l.high r) (followed-le l.more l.low l.high r)
+    after (Some l) = found (followed l.more l.low l.high r) (followed_le l.more l.low l.high r)
       where
         found : (t : Bool) → (t ≡ true → l.more ≤ length r) → cond t (suc l.more) 0 ≤ suc (length r)
         found true h = let k = h refl in omega arith
@@ -56,13 +56,13 @@ utf8-char (b ∷ r) h = after (lead_of b)
         found true = rw eqb-suc-zero
         found false = refl
 
-pub utf8-none : (s : List ℕ) → length s ≡ 0 → utf8 s ≡ true
+pub utf8_none : (s : List ℕ) → length s ≡ 0 → utf8 s ≡ true
 unfolding utf8 owes
-utf8-none [] e = refl
-utf8-none (b ∷ r) e = absurd (omega arith)
+utf8_none [] e = refl
+utf8_none (b ∷ r) e = absurd (omega arith)
 
-pub no-char : (s : List ℕ) → 0 < length s → char_len s ≡ 0 → utf8 s ≡ false
-no-char s h z = utf8-char s h ∙ rw z
+pub no_char : (s : List ℕ) → 0 < length s → char_len s ≡ 0 → utf8 s ≡ false
+no_char s h z = utf8-char s h ∙ rw z
 
-pub past-char : (s : List ℕ) → 0 < length s → (char_len s ≡ 0 → ⊥) → utf8 s ≡ utf8 (drop (char_len s) s)
-past-char s h z = utf8-char s h ∙ rw (ne_eqb (char_len s) 0 z)
+pub past_char : (s : List ℕ) → 0 < length s → (char_len s ≡ 0 → ⊥) → utf8 s ≡ utf8 (drop (char_len s) s)
+past_char s h z = utf8-char s h ∙ rw (ne_eqb (char_len s) 0 z)

@@ -1,11 +1,11 @@
 -- What `encode` answers: an encoding has at most four bytes, and they are the first ones that it gives.
-use Prim.Native.Nat.{ℕ, ◌≤◌}
-use mathlib.Core.Path.{◌≡◌, refl, ◌∙◌}
+use Prim.Native.Nat.{ℕ, min, ◌≤◌}
+use mathlib.Core.Path.{◌≡◌, ◌∙◌}
 use mathlib.Core.List.{[], ◌∷◌, ◌++◌}
 use native.Mathlib.Omega.{arith}
 use lib.Dec.{ltb}
-use lib.ListN.{length, take, length-append}
-use lib.Seq.{take-take, take-append_seam, length-take-le}
+use lib.ListN.{length, take}
+use lib.Seq.{take-take, take-append_seam}
 use Rattle.text.proofs.Cases.{by_bool}
 use Rattle.utf8.specs.Scalar.{is_scalar, encoding, encoding_of, encoded_of}
 
@@ -19,14 +19,9 @@ pub encoding-le : (n : ℕ) → length (encoding_of n) ≤ 4
 unfolding encoding_of
 encoding-le n = by_bool (is_scalar n) (λ e. rw e (four n)) (λ e. rw e (omega arith))
 
-pub encoded-len : (n : ℕ) → (encoded_of n).len ≡ length (encoding_of n)
+-- the bytes that it gives, as a caller takes them
+pub encoded_bytes : (n : ℕ) → take (min (encoded_of n).len 4) (encoded_of n).bytes ≡ encoding_of n
 unfolding encoded_of
-encoded-len n = refl
-
-pub encoded-bytes : (n : ℕ) → take (encoded_of n).len (encoded_of n).bytes ≡ encoding_of n
-unfolding encoded_of
-encoded-bytes n = take-take (length (encoding_of n)) 4 (encoding_of n ++ 0 ∷ 0 ∷ 0 ∷ 0 ∷ []) (encoding-le n) ∙ take-append_seam (encoding_of n) (0 ∷ 0 ∷ 0 ∷ 0 ∷ [])
-
-pub encoded-le : (n : ℕ) → (encoded_of n).len ≤ length (encoded_of n).bytes
-unfolding encoded_of
-encoded-le n = omega (arith, encoding-le n, length-take-le 4 (encoding_of n ++ 0 ∷ 0 ∷ 0 ∷ 0 ∷ []) (omega (arith, length-append (encoding_of n) (0 ∷ 0 ∷ 0 ∷ 0 ∷ []))))
+encoded_bytes n =
+    let m : min (length (encoding_of n)) 4 ≡ length (encoding_of n) = omega (arith, encoding-le n) in
+    rw m (take-take (length (encoding_of n)) 4 (encoding_of n ++ 0 ∷ 0 ∷ 0 ∷ 0 ∷ []) (encoding-le n) ∙ take-append_seam (encoding_of n) (0 ∷ 0 ∷ 0 ∷ 0 ∷ []))

@@ -15,7 +15,7 @@ use Rattle.utf8.specs.declared.utf8.Lead.{Lead}
 use Rattle.std.specs.Prelude.{Option, Some, None}
 use Rattle.utf8.proofs.Ranges.{below}
 use Rattle.utf8.proofs.Trimmed.{Owed, nothing, some, owed}
-use Rattle.utf8.proofs.Unicode.{utf8-ascii}
+use Rattle.utf8.proofs.Unicode.{utf8_ascii}
 
 -- A well-formed text in front
 
@@ -68,7 +68,7 @@ Around b p r = (n low high : ℕ) → 0x80 ≤ low → owes (p ++ b ∷ r) n low
 module _ (b : ℕ) (ascii : b < 0x80) where
   owes-cut : (p r : List ℕ) → Around b p r
   unfolding owes utf8
-  owes-cut [] r zero low high h = utf8-ascii b r ascii
+  owes-cut [] r zero low high h = utf8_ascii b r ascii
   owes-cut [] r (suc n) low high h = rw (below low high b (omega arith))
   owes-cut (c ∷ p) r zero low high h = after (owed c) (owes-cut p r)
     where

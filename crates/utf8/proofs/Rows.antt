@@ -1,4 +1,4 @@
--- The rows of `lead_of`, each for the lead bytes between its ends: the rows above it do not hold them.
+-- Rows of `lead_of`, each for the lead bytes between its ends: the rows above it do not hold them. And going by rows.
 use Prim.Native.Nat.{ℕ, ◌≤◌}
 use mathlib.Core.Path.{◌≡◌}
 use mathlib.Core.Bool.{true}
@@ -7,28 +7,9 @@ use Rattle.utf8.specs.Utf8.{within, lead_of, follow}
 use Rattle.utf8.specs.declared.utf8.Lead.{Lead}
 use Rattle.std.specs.Prelude.{Option, None}
 use Rattle.text.proofs.Cases.{on-cond}
-use Rattle.utf8.proofs.Ranges.{below, above, inside}
+use Rattle.utf8.proofs.Ranges.{above, inside}
 
 module _ (b : ℕ) where
-  pub ascii : b ≤ 0x7F → follow 0 0x80 0xBF ≡ lead_of b
-  unfolding lead_of
-  ascii h = rw (inside 0x00 0x7F b (omega arith) h)
-
-  -- 80 to C1: a continuation byte, or the lead of an overlong form
-  pub low : 0x80 ≤ b → b ≤ 0xC1 → None ≡ lead_of b
-  unfolding lead_of
-  low l h = rw (
-    above 0x00 0x7F b l,
-    below 0xC2 0xDF b (omega arith),
-    below 0xE0 0xE0 b (omega arith),
-    below 0xE1 0xEC b (omega arith),
-    below 0xED 0xED b (omega arith),
-    below 0xEE 0xEF b (omega arith),
-    below 0xF0 0xF0 b (omega arith),
-    below 0xF1 0xF3 b (omega arith),
-    below 0xF4 0xF4 b (omega arith),
-  )
-
   pub two : 0xC2 ≤ b → b ≤ 0xDF → follow 1 0x80 0xBF ≡ lead_of b
   unfolding lead_of
   two l h = rw (above 0x00 0x7F b (omega arith), inside 0xC2 0xDF b l h)
@@ -40,33 +21,6 @@ module _ (b : ℕ) where
   pub three-high : 0xEE ≤ b → b ≤ 0xEF → follow 2 0x80 0xBF ≡ lead_of b
   unfolding lead_of
   three-high l h = rw (above 0x00 0x7F b (omega arith), above 0xC2 0xDF b (omega arith), above 0xE0 0xE0 b (omega arith), above 0xE1 0xEC b (omega arith), above 0xED 0xED b (omega arith), inside 0xEE 0xEF b l h)
-
-  pub four : 0xF1 ≤ b → b ≤ 0xF3 → follow 3 0x80 0xBF ≡ lead_of b
-  unfolding lead_of
-  four l h = rw (
-    above 0x00 0x7F b (omega arith),
-    above 0xC2 0xDF b (omega arith),
-    above 0xE0 0xE0 b (omega arith),
-    above 0xE1 0xEC b (omega arith),
-    above 0xED 0xED b (omega arith),
-    above 0xEE 0xEF b (omega arith),
-    above 0xF0 0xF0 b (omega arith),
-    inside 0xF1 0xF3 b l h,
-  )
-
-  pub high : 0xF5 ≤ b → None ≡ lead_of b
-  unfolding lead_of
-  high l = rw (
-    above 0x00 0x7F b (omega arith),
-    above 0xC2 0xDF b (omega arith),
-    above 0xE0 0xE0 b (omega arith),
-    above 0xE1 0xEC b (omega arith),
-    above 0xED 0xED b (omega arith),
-    above 0xEE 0xEF b (omega arith),
-    above 0xF0 0xF0 b (omega arith),
-    above 0xF1 0xF3 b (omega arith),
-    above 0xF4 0xF4 b (omega arith),
-  )
 
 -- what holds of every row, where b is in it, holds of what b leads
 pub each : (P : Option Lead → Type 0) (b : ℕ) → (within 0x00 0x7F b ≡ true → P (follow 0 0x80 0xBF))

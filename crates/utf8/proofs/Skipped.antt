@@ -9,9 +9,9 @@ use borrow.Author.Tests.{ltb-true}
 use Rattle.text_scans.specs.Eights.{eights, ascii_at}
 use Rattle.text_scans.proofs.Passing.{along}
 use Rattle.utf8.specs.Utf8.{utf8}
-use Rattle.utf8.proofs.Unicode.{utf8-ascii}
+use Rattle.utf8.proofs.Unicode.{utf8_ascii}
 
 pub ascii : (s : List ℕ) (r : ℕ) → r ≡ eights (ascii_at s) (length s) → utf8 s ≡ utf8 (drop r s)
 ascii s r =
     along (ascii_at s) (length s) (λ i. utf8 s ≡ utf8 (drop i s)) refl
-    (λ i l e h. h ∙ rw (drop-cons s i 0 l, add-one) (utf8-ascii (get_or s i 0) (drop (suc i) s) (ltb-true (get_or s i 0) 0x80 e))) r
+    (λ i l e h. h ∙ rw (drop-cons s i 0 l, add-one) (utf8_ascii (get_or s i 0) (drop (suc i) s) (ltb-true (get_or s i 0) 0x80 e))) r

@@ -20,7 +20,7 @@ use Rattle.utf8.specs.declared.utf8.Lead.{Lead}
 use Rattle.std.specs.Prelude.{Option, None}
 use Rattle.text.proofs.Cases.{by_bool}
 use Rattle.utf8.proofs.Ranges.{below}
-use Rattle.utf8.proofs.Unicode.{utf8-ascii}
+use Rattle.utf8.proofs.Unicode.{utf8_ascii}
 
 -- What a lead byte owes is at least 80
 
@@ -55,7 +55,7 @@ alike-cons b s t a (suc n) low high h = rw (a n 0x80 0xBF (omega arith))
 -- a last byte below 80 completes nothing that is owed, and adds nothing where nothing is
 alike-ascii : (b : ℕ) (s : List ℕ) → b < 0x80 → Alike [] s → Alike [] (b ∷ s)
 unfolding owes utf8
-alike-ascii b s l a zero low high h = a 0 0x80 0xBF (omega arith) ∙ sym (utf8-ascii b s l)
+alike-ascii b s l a zero low high h = a 0 0x80 0xBF (omega arith) ∙ sym (utf8_ascii b s l)
 alike-ascii b s l a (suc n) low high h = rw (below low high b (omega arith))
 
 -- Trimming by a test that only bytes below 80 pass
@@ -63,7 +63,7 @@ module _ (p : ℕ → Bool) (ascii : (b : ℕ) → p b ≡ true → b < 0x80) wh
   -- dropped in front
   pub utf8-start : (s : List ℕ) → utf8 (drop (prefix_len p s) s) ≡ utf8 s
   utf8-start [] = refl
-  utf8-start (b ∷ r) = by_bool (p b) (λ e. rw (e, one-add) (utf8-start r ∙ sym (utf8-ascii b r (ascii b e)))) (λ e. rw e)
+  utf8-start (b ∷ r) = by_bool (p b) (λ e. rw (e, one-add) (utf8-start r ∙ sym (utf8_ascii b r (ascii b e)))) (λ e. rw e)
 
   -- dropped at the end
   alike_end : (s : List ℕ) → Alike (take (kept_end p s) s) s

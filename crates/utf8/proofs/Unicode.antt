@@ -73,9 +73,9 @@ encoding-ascii : (v : ℕ) → v < 0x80 → encoding v ≡ v ∷ []
 unfolding encoding
 encoding-ascii v h = rw (lt-ltb v 0x80 h)
 
-pub utf8-ascii : (b : ℕ) (s : List ℕ) → b < 0x80 → utf8 (b ∷ s) ≡ utf8 s
+pub utf8_ascii : (b : ℕ) (s : List ℕ) → b < 0x80 → utf8 (b ∷ s) ≡ utf8 s
 unfolding utf8 owes lead_of
-utf8-ascii b s h = rw (inside 0 0x7F b (omega arith) (omega arith))
+utf8_ascii b s h = rw (inside 0 0x7F b (omega arith) (omega arith))
 
 -- Scalar values by arithmetic: the surrogates, D800 to DFFF, are the numbers v with v / 0x800 ≡ 27
 
@@ -251,7 +251,7 @@ first b s e =
       after = s;
       shorter = omega arith;
       split = rw (encoding-ascii b h);
-      formed = rw (utf8-ascii b s h) at e;
+      formed = rw (utf8_ascii b s h) at e;
     }
 
 -- From a scalar value to bytes
@@ -309,7 +309,7 @@ pub utf8-encoding : (v : ℕ) → is_scalar v ≡ true → (s : List ℕ) → ut
 unfolding utf8 owes
 utf8-encoding v e s =
     by_bool (ltb v 0x80)
-    (λ t. let h = ltb-true v 0x80 t in rw (encoding-ascii v h) (utf8-ascii v s h))
+    (λ t. let h = ltb-true v 0x80 t in rw (encoding-ascii v h) (utf8_ascii v s h))
     (λ t. by_row (accept 0x80 0x80 rows table v (test_scalar v e) (ltb-false v 0x80 t)))
   where
     by_row : Accepted 0x80 rows v → utf8 (encoding v ++ s) ≡ utf8 s

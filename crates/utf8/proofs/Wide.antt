@@ -13,13 +13,13 @@ use Rattle.utf8.specs.Utf8.{within, lead_of, followed, len_after, char_len, foll
 use Rattle.utf8.specs.declared.utf8.Lead.{Lead}
 use Rattle.std.specs.Prelude.{Option}
 use Rattle.text.proofs.Cases.{by_bool, on-cond, clash}
-use Rattle.utf8.proofs.Chars.{char_len-le}
+use Rattle.utf8.proofs.Chars.{char_len_le}
 use Rattle.utf8.proofs.Ranges.{inside, within-bounds}
 use Rattle.utf8.proofs.Rows as rows
 
 -- a character is no longer than the text
 pub short : (n : ℕ) (s : List ℕ) → length s < n → eqb (char_len s) n ≡ false
-short n s h = ne_eqb (char_len s) n (λ e. let k = char_len-le s in omega arith)
+short n s h = ne_eqb (char_len s) n (λ e. let k = char_len_le s in omega arith)
 
 -- a text is no character of n bytes, r standing after its lead byte
 abbrev Other : ℕ → List ℕ → Option Lead → Type 0

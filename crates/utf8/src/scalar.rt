@@ -2,7 +2,7 @@ ghost use Rattle.std.specs.Prelude.{◌≡◌, ◌+◌, ◌%◌, ◌/◌};
 ghost use Rattle.utf8.specs.Scalar.{is_scalar, encoded_of};
 
 // The bytes that encode a scalar value, zeros after them, and how many they are: none for any other number, so that
-// encode asks nothing of its caller. A buffer with its length, since memory is fixed: no slice of it could be handed out.
+// encode asks nothing of its caller. A buffer with its length, since memory is fixed: no slice could be handed out.
 #[derive(Clone, Copy, Debug, PartialEq, Eq)]
 pub struct Encoded {
     pub bytes: [u8; 4],
@@ -24,6 +24,7 @@ fn trail(n: u32) -> u8
     0x80 + (n % 64) as u8
 }
 
+#[tactic(auto, unfolding(crate::specs::Scalar::encoded_of, crate::specs::Scalar::encoding_of, crate::specs::Scalar::encoding), using(crate::proofs::Scalars::scalar_le))]
 pub fn encode(n: u32) -> Encoded
     ensures { result ≡ encoded_of n }
 {

@@ -1,4 +1,4 @@
-ghost use Rattle.std.specs.Prelude.{◌≡◌, eqb};
+ghost use Rattle.std.specs.Prelude.{◌≡◌, ◌≤◌, eqb, length};
 ghost use Rattle.std.specs.List.{list_all};
 ghost use Rattle.utf8.specs.Utf8.{within, lead_of, followed, char_len, utf8};
 
@@ -13,6 +13,7 @@ pub struct Lead {
 }
 
 // What b leads; None where it leads no character.
+#[tactic(auto, unfolding(crate::specs::Utf8::lead_of, crate::specs::Utf8::within))]
 pub fn lead_of(b: u8) -> Option<Lead>
     ensures { result ≡ lead_of b }
 {
@@ -33,6 +34,7 @@ pub fn lead_of(b: u8) -> Option<Lead>
 
 impl Lead {
     // Whether s begins with the bytes that follow: the second byte has its range, the others are from 80 to BF.
+    #[tactic(auto, using(crate::proofs::Leads::short, crate::proofs::Leads::whole))]
     fn is_followed(self, s: &[u8]) -> bool
         ensures { result ≡ followed self.more self.low self.high s.now }
     {
@@ -54,6 +56,7 @@ fn are_continuations(s: &[u8]) -> bool
 }
 
 // What char_len answers, by the table.
+#[tactic(auto, unfolding(crate::specs::Utf8::char_len), using(crate::proofs::Chars::followed_le))]
 fn char_len_by_table(s: &[u8]) -> usize
     ensures { result ≡ char_len s.now }
 {
@@ -86,6 +89,7 @@ fn is_two(s: &[u8]) -> bool
 }
 
 // Whether s begins with a character of three bytes. After E0 and ED fewer second bytes are allowed.
+#[tactic(auto, using(crate::proofs::Wide::short))]
 fn is_three(s: &[u8]) -> bool
     ensures { result ≡ eqb (char_len s.now) 3 }
 {
@@ -97,11 +101,13 @@ fn is_three(s: &[u8]) -> bool
     is_within(0xE0, 0xEF, s[0]) & is_within(low, high, s[1]) & is_within(0x80, 0xBF, s[2])
 }
 
-// How many bytes the character has that s begins with; 0 where it begins with no well-formed one. It is a length, 0 where
-// nothing stands, as the rule counts it: a caller adds it to a place, so an Option would only be undone there. Most letters
-// beyond ASCII have two or three bytes, and the table's jump is slow: for these there are ways past it.
+// How many bytes the character has that s begins with; 0 where it begins with no well-formed one. It is a length, 0
+// where nothing stands, as the rule counts it: a caller adds it to a place, so an Option would only be undone there.
+// Most letters beyond ASCII have two or three bytes, and the table's jump is slow: for these there are ways past it.
+#[tactic(auto, using(crate::proofs::Chars::char_len_le))]
 pub fn char_len(s: &[u8]) -> usize
-    ensures { result ≡ char_len s.now }
+    ensures value { result ≡ char_len s.now }
+    ensures within { result ≤ length s.now }
 {
     if is_two(s) {
         return 2;
@@ -113,7 +119,9 @@ pub fn char_len(s: &[u8]) -> usize
 }
 
 // A byte of the table's first row is a character by itself: for these there is a short way, past the table, and a
-// shorter one for eights of them in front.
+// shorter one for eights of them in front. `split_first` tests the end and takes the byte at once; an iterator over
+// characters would be a type, a `next` and a rule of its own for this one loop.
+#[tactic(auto, using(crate::proofs::Chars::utf8_none, crate::proofs::Chars::no_char, crate::proofs::Unicode::utf8_ascii))]
 pub fn is_utf8(s: &[u8]) -> bool
     ensures { result ≡ utf8 s.now }
 {

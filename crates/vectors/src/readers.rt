@@ -3,8 +3,8 @@
 use crate::lines::Numbers;
 use parser::State;
 use reader::Tokenizer;
-use tokenizer::Answer;
-use tokenizer_rows::{bare_row, token_row};
+use tokenizer::{Answer, Said};
+use tokenizer_rows::{said_row, token_row};
 
 // A text of 256 bytes has at most 512 answers; End, then, comes again.
 const STEPS: usize = 514;
@@ -16,7 +16,7 @@ fn is_next(answer: Answer, numbers: &mut Numbers<'_>) -> bool {
     };
     let row = match said {
         Ok(t) => token_row(t),
-        Err(e) => bare_row(256 + usize::from(e.refusal), e.line),
+        Err(e) => said_row(Said::refused(e.refusal, e.line)),
     };
     numbers.are(&row[..6])
 }

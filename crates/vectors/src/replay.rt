@@ -45,7 +45,8 @@ impl fmt::Display for Kind {
     }
 }
 
-// How many lines of each kind were checked, how many can't be read, how many of all these differ, and the first of them.
+// How many lines of each kind were checked, how many can't be read, how many of all these differ, and the first of
+// them.
 #[derive(Clone, Copy)]
 pub struct Tally {
     counts: [usize; 7],

@@ -28,8 +28,8 @@ pub fn name_agrees(s: &[u8], mut numbers: Numbers<'_>) -> bool {
     numbers.rest.is_empty() && front == s && behind.iter().all(|b| *b == 0)
 }
 
-// Whether the numbers are the answer for the token and, where its text is written, the bytes of this, which is no longer
-// than the token's.
+// Whether the numbers are the answer for the token and, where its text is written, the bytes of this, which is no
+// longer than the token's.
 fn unescaping_agrees(s: &[u8], mut numbers: Numbers<'_>, t: Token) -> bool {
     let mut out = [0u8; 256];
     let mut answer = [0usize; 5];

@@ -1,7 +1,8 @@
 -- A batch of one: its row, or the number that stops it (proofs/Taking).
-use mathlib.Core.Path.{sym, ◌∙◌}
+use mathlib.Core.Path.{sym, ap, ◌∙◌}
 use native.Mathlib.Omega.{arith}
 use borrow.Author.Tests.{lt-ltb, le-ltb}
+use Rattle.tokenizer_rows.specs.Rows.{row_by}
 use Rattle.batches.specs.Walks.{next_of}
 use Rattle.step_words.specs.declared.step.Layer.TheVariants.{Parser}
 use Rattle.batches.proofs.Single.{none-taken, one-taken}
@@ -11,7 +12,7 @@ pub returns-then-doc-gt-MAX_DOCUMENT : goal.returns-then-doc-gt-MAX_DOCUMENT
 unfolding next_of
 returns-then-doc-gt-MAX_DOCUMENT c =
     let l = lt-ltb _ _ c.if-doc-gt-MAX_DOCUMENT.true in
-    record { words_after = rw l; row_after = rw l c.bare_row.ensures }
+    record { words_after = rw l; row_after = rw l (c.said_row.ensures ∙ ap row_by c.refused.ensures) }
 
 pub returns-in-Some : goal.returns-in-Some
 unfolding next_of
@@ -19,7 +20,7 @@ returns-in-Some c =
     let t = c.take_rows-t.ensures in
     let l = le-ltb _ _ c.if-doc-gt-MAX_DOCUMENT.false in
     let g = none-taken Parser c.args.doc.now c.args.words.now c.args.row.now (omega arith) (sym t.last_value ∙ c.in-Some.is) in
-    record { words_after = rw l (t.w_after ∙ g.0); row_after = rw l (c.bare_row-in-Some.ensures ∙ g.1) }
+    record { words_after = rw l (t.w_after ∙ g.0); row_after = rw l (c.bare_row.ensures ∙ g.1) }
 
 pub returns-in_default : goal.returns-in_default
 unfolding next_of

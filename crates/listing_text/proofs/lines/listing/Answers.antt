@@ -1,13 +1,11 @@
 use Rattle.std.specs.Prelude.{Some, Err}
 use Rattle.text.specs.Numbers.{error}
 use Rattle.text.specs.declared.refusals.Refusal.TheVariants.{TooLong}
-use Prim.Native.Nat.{◌+◌}
 use Rattle.std.proofs.Common.{rules}
 use mathlib.Core.Path.{refl, sym, ap, ◌∙◌}
 use native.Mathlib.Omega.{arith}
 use lib.ListN.{length, replicate}
-use Rattle.tokenizer.specs.Token.{bare}
-use Rattle.tokenizer_rows.specs.Rows.{row_of}
+use Rattle.tokenizer_rows.specs.Rows.{row_by}
 use Rattle.step_words.proofs.Laws.{fresh-reads}
 use Rattle.batches.proofs.Walking.{called}
 use Rattle.listing_text.specs.Listing.{header, line_text, answer_text}
@@ -19,7 +17,7 @@ pub returns-then-doc-gt-MAX_LISTED : goal.returns-then-doc-gt-MAX_LISTED
 unfolding answer_text
 returns-then-doc-gt-MAX_LISTED c =
     let h = wrote header 0 _ c.put.ensures.len c.put.ensures.out in
-    let row = c.bare_row.ensures ∙ ap (λ n. row_of (bare (256 + n) 0)) c.from.ensures in
+    let row = c.said_row.ensures ∙ ap row_by c.refused.ensures in
     let line = ap line_text row ∙ too-long in
     let all =
     over _ c.if-doc-gt-MAX_LISTED.true

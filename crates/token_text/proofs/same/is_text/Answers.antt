@@ -14,4 +14,4 @@ returns-then-not-is_meant c =
 
 pub returns : goal.returns
 returns c =
-    c.is_ok.ensures.value ∙ same_text _ _ _ c.source_of-w.ensures c.is_meant.ensures _ c.if-not-is_meant.false c.source_in.ensures
+    c.is_ok.ensures.value ∙ same_text _ _ _ c.source_of-w.ensures c.is_meant.ensures _ c.if-not-is_meant.false c.source_in.ensures.value

@@ -5,13 +5,9 @@ use Rattle.text.proofs.Same.{starts-le}
 use Rattle.token_text.proofs.Matching.{piece-same, piece-differs, at-end}
 use Rattle.token_text.proofs.same.is_written.Goals as goal
 
-pub returns-in_default : goal.returns-in_default
-returns-in_default c =
-    at-end _ _ (rw c.in_default.is at c.in-Ok.ensures) c.is_empty.ensures ∙ sym c.loop-found.invariant
-
 pub returns-then-not-starts_with : goal.returns-then-not-starts_with
 returns-then-not-starts_with c =
-    sym (c.loop-found.invariant ∙ piece-differs (rw c.in-Some.is at c.in-Ok.ensures) _ (rw c.as_slice-bytes.ensures at c.starts_with.ensures) c.if-not-starts_with.true)
+    sym (c.loop-piece.invariant ∙ piece-differs (rw c.in-Ok.is at c.in-Some.ensures.steps) _ (rw c.as_slice-bytes.ensures at c.starts_with.ensures) c.if-not-starts_with.true)
 
 pub slice_bounds-left-count : goal.slice_bounds-left-count
 slice_bounds-left-count c = starts-le _ _ (sym c.starts_with.ensures ∙ c.if-not-starts_with.false)
@@ -19,8 +15,11 @@ slice_bounds-left-count c = starts-le _ _ (sym c.starts_with.ensures ∙ c.if-no
 pub slice_bounds-left-start : goal.slice_bounds-left-start
 slice_bounds-left-start c = omega (arith, starts-le _ _ (sym c.starts_with.ensures ∙ c.if-not-starts_with.false))
 
-pub loop-found-preserved : goal.loop-found-preserved
-loop-found-preserved c =
-    c.loop-found.invariant
-    ∙ piece-same (rw c.in-Some.is at c.in-Ok.ensures) _ (rw c.as_slice-bytes.ensures at c.starts_with.ensures) c.if-not-starts_with.false
+pub loop-piece-preserved : goal.loop-piece-preserved
+loop-piece-preserved c =
+    c.loop-piece.invariant
+    ∙ piece-same (rw c.in-Ok.is at c.in-Some.ensures.steps) _ (rw c.as_slice-bytes.ensures at c.starts_with.ensures) c.if-not-starts_with.false
     ∙ rw (from, c.as_slice-bytes.ensures)
+
+pub returns : goal.returns
+returns c = at-end _ _ c.in-None.ensures.steps c.is_empty.ensures ∙ sym c.loop-piece.invariant

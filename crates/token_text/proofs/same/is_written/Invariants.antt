@@ -1,12 +1,9 @@
 -- `is_written` compares piece by piece (proofs/Matching). Invariant: the text from the cursor on is compared with the bytes that
--- are left. Measure: as the cursor has it.
+-- are left.
 use mathlib.Core.Path.{◌≡◌}
-use Rattle.unescape_pieces.specs.Cursor.{meaning_of, size}
+use Rattle.unescape_pieces.specs.Cursor.{meaning_of}
 use Rattle.token_text.specs.Written.{is_written}
 use Rattle.token_text.proofs.same.is_written.Given as goal
 
-abbrev pub invariant-loop-found : goal.invariant-loop-found
-invariant-loop-found l = is_written (meaning_of l.fn.cursor) l.wanted ≡ is_written (meaning_of l.cursor) l.left
-
-abbrev pub decreases-loop-found : goal.decreases-loop-found
-decreases-loop-found l = size l.cursor
+abbrev pub invariant-loop-piece : goal.invariant-loop-piece
+invariant-loop-piece l = is_written (meaning_of l.cursor) l.wanted ≡ is_written (meaning_of l.piece-iterator) l.left

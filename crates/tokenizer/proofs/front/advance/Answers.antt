@@ -3,7 +3,8 @@ use Rattle.std.proofs.Common.{rules}
 use mathlib.Core.Path.{◌≡◌, sym, ◌∙◌}
 use Rattle.text.proofs.Front.{from}
 use Rattle.tokenizer.specs.Front.{advance_with, advance_rule}
-use Rattle.tokenizer.proofs.Advancing.{nearness, indent-near, room-near, over, far, advances}
+use Rattle.tokenizer.proofs.Kept.{indent-fit}
+use Rattle.tokenizer.proofs.Advancing.{nearness, room, over, far, advances}
 use Rattle.tokenizer.proofs.front.advance.Goals as goal
 
 pub returns-then-doc-gt-MAX_DOCUMENT : goal.returns-then-doc-gt-MAX_DOCUMENT
@@ -27,21 +28,14 @@ planned-p-requires c =
     record {
       place_in_bounds = f.place;
       inner_fits = f.innermost;
-      indent_fits = rw i (indent-near c.args.doc.now c.args.f f.place f.held);
+      indent_fits = rw i (indent-fit c.args.doc.now c.args.f.place c.args.f.held f.place f.held);
     }
 
 pub carried_out-requires : goal.carried_out-requires
 carried_out-requires c =
     let f = nearness _ _ _ (sym c.is_near.ensures ∙ c.if-not-is_near.false) in
-    let room = room-near _ _ _ _ _ _ _ c.if-doc-gt-MAX_DOCUMENT.false f c.planned-p.ensures in
-    record {
-      depth_le_max_open = room.0;
-      depth_bound = room.1.0;
-      pass_bound = room.1.1.0;
-      lines_bound = room.1.1.1.0;
-      says_bound = room.1.1.1.1.0;
-      number_bound = room.1.1.1.1.1;
-    }
+    let r = room _ _ _ _ _ _ c.if-doc-gt-MAX_DOCUMENT.false f c.planned-p.ensures in
+    record { depth_le_max_open = r.depth; pass_bound = r.place; lines_bound = r.line; says_bound = r.text }
 
 pub returns : goal.returns
 unfolding advance_rule advance_with

@@ -1,32 +1,16 @@
 -- The loop of `multiline_len`: one more piece at each turn (proofs/Pieces).
 use mathlib.Core.Path.{sym, ◌∙◌}
 use native.Mathlib.Nat.{add-zero}
-use native.Mathlib.Omega.{arith}
-use lib.Seq.{length-take-le}
 use Rattle.text.proofs.Front.{from}
-use Rattle.tokenizer_scans.proofs.Pieces.{piece-le, piece-at, none_passed, again, stop, end}
+use Rattle.tokenizer_scans.proofs.Pieces.{again, stop, end}
 use Rattle.tokenizer_scans.proofs.readers.multiline_len.Goals as goal
 use Rattle.tokenizer_scans.proofs.readers.multiline_len.Goals.{then-was_cr, else-was_cr, then-not-is_lf, else-not-is_lf}
-
-pub loop-len-init : goal.loop-len-init
-loop-len-init c = none_passed _ _
-
-pub slice_bounds-piece-end : goal.slice_bounds-piece-end
-slice_bounds-piece-end c = sym (length-take-le _ _ (rw c.piece_len-n.ensures (piece-le _)))
 
 pub returns-then-not-belongs : goal.returns-then-not-belongs
 returns-then-not-belongs c =
     sym
     (stop _ _ c.loop-len.invariant (rw from at c.piece_len-n.ensures)
     (sym (rw from at c.belongs.ensures) ∙ c.if-not-belongs.true))
-
-pub overflow_add-len : goal.overflow_add-len
-overflow_add-len c =
-    omega (arith, piece-at _ _ c.loop-len-test.true (rw from at c.piece_len-n.ensures))
-
-pub loop-len-smaller : goal.loop-len-smaller
-loop-len-smaller c =
-    omega (arith, piece-at _ _ c.loop-len-test.true (rw from at c.piece_len-n.ensures))
 
 pub loop-len-preserved : goal.loop-len-preserved
 loop-len-preserved c =

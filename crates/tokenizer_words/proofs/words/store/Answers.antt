@@ -15,4 +15,4 @@ pub returns : goal.returns
 unfolding stored_in
 returns c =
     let e = le-leb _ _ c.if-words-lt137.false in
-    let w = c.paste.ensures ∙ pasted-room _ _ _ (omega arith) in record { value = sym e; words_after = rw e (c.put_indents.ensures ∙ rw (w, c.front-f.ensures) (both-written _ _ (owned-64 c.args.s c.well_formed.0))) }
+    let w = c.paste.ensures ∙ pasted-room _ _ _ (omega arith) in record { value = sym e; words_after = rw e (c.put_indents.ensures ∙ rw (w, c.front_words-front.ensures, c.front.ensures) (both-written _ _ (owned-64 c.args.s c.well_formed.0))) }

@@ -1,17 +1,20 @@
--- `measure` adds up the pieces (proofs/Measuring). Invariant: `len` bytes and those of the text from the cursor on make up the whole,
--- and they are at most four for each byte that is passed, so that the count has room. Measure: as the cursor has it.
-use Prim.Native.Nat.{◌+◌, ◌*◌, ◌≤◌}
+-- `measure` adds up the pieces. Invariant: `len` bytes and those of the text from the cursor on make up the whole,
+-- and they are at most four for each byte that is passed, so that the count has room.
+use Prim.Native.Nat.{ℕ, ◌+◌, ◌*◌, ◌≤◌}
 use mathlib.Core.Path.{◌≡◌}
-use Rattle.unescape_pieces.specs.Cursor.{meaning_of, left, size}
+use Rattle.unescape_pieces.specs.Cursor.{meaning_of, left}
+use Rattle.std.specs.Prelude.{Result, Ok, Err}
+use Rattle.unescape_pieces.specs.declared.fault.Fault.{Fault}
 use Rattle.unescape.specs.Walk.{measured_of}
-use Rattle.unescape.proofs.Measuring.{more}
 use Rattle.unescape.proofs.walk.measure.Given as goal
+
+-- n bytes and then as many as that
+abbrev pub more : ℕ → Result ℕ Fault → Result ℕ Fault
+more n (Ok k) = Ok (n + k)
+more n (Err f) = Err f
 
 abbrev pub invariant-loop-piece : goal.invariant-loop-piece
 invariant-loop-piece l = record {
-  adds_up : measured_of (meaning_of l.fn.cursor) ≡ more l.len (measured_of (meaning_of l.cursor));
-  few : l.len + 4 * left l.cursor ≤ 4 * left l.fn.cursor;
+  adds_up : measured_of (meaning_of l.cursor) ≡ more l.len (measured_of (meaning_of l.piece-iterator));
+  few : l.len + 4 * left l.piece-iterator ≤ 4 * left l.cursor;
 }
-
-abbrev pub decreases-loop-piece : goal.decreases-loop-piece
-decreases-loop-piece l = size l.cursor

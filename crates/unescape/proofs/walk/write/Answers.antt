@@ -4,4 +4,4 @@ use Rattle.unescape.proofs.walk.write.Goals as goal
 
 pub loop-piece-preserved : goal.loop-piece-preserved
 loop-piece-preserved c =
-    write-next c.loop-piece.invariant c.as_slice-bytes.result.now _ (rw (← c.as_slice-bytes.ensures) at (rw c.in-Ok-Some.field-0-is at c.in-Ok-Some.ensures).means) _ (lent _ _ _ _ c.copy.ensures) _ refl
+    write-next c.loop-piece.invariant c.as_slice-bytes.result.now _ (rw (← c.as_slice-bytes.ensures) at (rw c.in-Ok.is at c.in-Some.ensures.steps).means) _ (lent _ _ _ _ c.copy.ensures) _ refl

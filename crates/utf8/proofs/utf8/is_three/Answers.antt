@@ -1,13 +1,10 @@
 -- `is_three` tests the first three bytes: they tell whether the character has three (proofs/Wide).
-use Rattle.utf8.proofs.Wide.{least, most, short, three}
+use Rattle.utf8.proofs.Wide.{least, most, three}
 use lib.ListN.{get_or}
 use borrow.Author.Tests.{eq-eqb, ne_eqb}
-use mathlib.Core.Path.{◌≡◌, sym, ◌∙◌}
+use mathlib.Core.Path.{◌≡◌, ◌∙◌}
 use Rattle.utf8.proofs.utf8.is_three.Goals as goal
 use Rattle.utf8.proofs.utf8.is_three.Goals.{then-s, else-s, then-s-2, else-s-2}
-
-pub returns-then-s-lt3 : goal.returns-then-s-lt3
-returns-then-s-lt3 c = sym (short 3 _ c.if-s-lt3.true)
 
 -- the range of the second byte, where the arms have met
 pub returns : goal.returns

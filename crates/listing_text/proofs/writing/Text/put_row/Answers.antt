@@ -1,17 +1,20 @@
 -- Eight texts, one behind the other.
 use Prim.Native.Nat.{ℕ}
-use mathlib.Core.Path.{◌∙◌}
 use mathlib.Core.List.{[], ◌∷◌}
 use native.Mathlib.Omega.{arith}
-use lib.ListN.{get_or}
+use lib.ListN.{get_or, length-append}
 use Rattle.listing_text.specs.Listing.{kind_in, row_text, line_text}
 use Rattle.listing_text.specs.Text.{decimal}
 use Rattle.listing_text.proofs.Placing.{wrote, both}
 use Rattle.listing_text.proofs.writing.Text.put_row.Goals as goal
 
-pub returns : goal.returns
+pub returns-clause-len : goal.returns-clause-len
 unfolding row_text line_text
-returns c =
+returns-clause-len c = simp length-append (omega arith)
+
+pub returns-clause-out : goal.returns-clause-out
+unfolding row_text line_text
+returns-clause-out c =
     let word = λ (i : ℕ). get_or c.args.row.now i 0 in
     let w1 = wrote (decimal (word 1)) c.args.self.now.len c.args.self.now.out.now c.put_number.ensures.len c.put_number.ensures.out in
     let w2 = both w1 (wrote (32 ∷ []) _ _ c.put.ensures.len c.put.ensures.out) in
@@ -20,10 +23,4 @@ returns c =
     let w5 = both w4 (wrote (decimal (word 2)) _ _ c.put_number-2.ensures.len c.put_number-2.ensures.out) in
     let w6 = both w5 (wrote (32 ∷ []) _ _ c.put-3.ensures.len c.put-3.ensures.out) in
     let w7 = both w6 (wrote (decimal (word 3)) _ _ c.put_number-3.ensures.len c.put_number-3.ensures.out) in
-    let w8 = both w7 (wrote (10 ∷ []) _ _ c.put-4.ensures.len c.put-4.ensures.out) in
-    record {
-      same_reference = c.put-4.ensures.same_reference ∙ c.put_number-3.ensures.same_reference ∙ c.put-3.ensures.same_reference ∙ c.put_number-2.ensures.same_reference ∙ c.put-2.ensures.same_reference ∙ c.put_kind.ensures.same_reference ∙ c.put.ensures.same_reference ∙ c.put_number.ensures.same_reference;
-      len = w8.place;
-      upper_bound = omega arith;
-      out = w8.buffer;
-    }
+    (both w7 (wrote (10 ∷ []) _ _ c.put-4.ensures.len c.put-4.ensures.out)).buffer

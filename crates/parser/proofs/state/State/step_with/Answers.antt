@@ -22,4 +22,4 @@ returns-in-End c =
 pub returns-in-Unfit : goal.returns-in-Unfit
 unfolding step_with
 returns-in-Unfit c =
-    rw (← c.innermost.ensures, sym c.rule.ensures ∙ c.in-Unfit.is)
+    rw (c.refused.ensures, ← c.innermost.ensures, sym c.rule.ensures ∙ c.in-Unfit.is)

@@ -1,6 +1,4 @@
--- `fits` tests what `fit` does, in its order: each return is the law of the test that fails (proofs/Fitness), and the last is the
--- law of the open indentations.
-use Prim.Native.Nat.{◌+◌, ◌≤◌, ◌<◌}
+-- What the front tells, and then the open indentations.
 use mathlib.Core.Path.{sym, ◌∙◌}
 use native.Mathlib.Omega.{arith}
 use lib.ListN.{take}
@@ -8,31 +6,20 @@ use Rattle.std.proofs.Common.{rules, tests}
 use Rattle.std.proofs.lemmas.Iterator.{YieldsList-from_slice}
 use Rattle.std.proofs.lemmas.Iterator.Search.{all_from_yields_List}
 use Rattle.tokenizer.specs.Step.{fit_part}
-use Rattle.tokenizer.proofs.Fitness.{open-decides, all_open, place-past, line-zero, line-past, held-unfit, too-deep}
+use Rattle.tokenizer.proofs.Fitness.{fit_parts, front-depth, all_open}
 use Rattle.tokenizer.proofs.state.State.fits.Goals as goal
 
-pub returns-then-n-place : goal.returns-then-n-place
-returns-then-n-place c = sym (place-past _ _ c.if-n-place.true)
+pub returns-then-not-fits : goal.returns-then-not-fits
+returns-then-not-fits c = rw (fit_parts c.args.n c.args.self, ← c.front.ensures, ← c.fits.ensures, c.if-not-fits.true)
 
-pub returns-then-line-eq0 : goal.returns-then-line-eq0
-returns-then-line-eq0 c = sym (line-zero _ _ c.if-line-eq0.true)
-
-pub returns-then-place-line : goal.returns-then-place-line
-returns-then-place-line c = sym (line-past _ _ (omega arith))
-
-pub returns-then-not-held_fits : goal.returns-then-not-held_fits
-returns-then-not-held_fits c = sym (held-unfit _ _ (sym c.held_fits.ensures ∙ c.if-not-held_fits.true))
-
-pub returns-then-depth-gt-MAX_OPEN : goal.returns-then-depth-gt-MAX_OPEN
-returns-then-depth-gt-MAX_OPEN c = sym (too-deep _ _ c.if-depth-gt-MAX_OPEN.true)
+pub shared_ref_as_front-iter : goal.shared_ref_as_front-iter
+shared_ref_as_front-iter c = front-depth _ _ (rw c.front.ensures at (sym c.fits.ensures ∙ c.if-not-fits.false))
 
 pub returns : goal.returns
 returns c =
     let s = c.args.self in
     let n = c.args.n in
-    let positive : 0 < s.line = omega arith in
-    let low : s.line ≤ s.place + 1 = omega arith in
-    let held = sym c.held_fits.ensures ∙ c.if-not-held_fits.false in
+    let h = rw c.front.ensures at (sym c.fits.ensures ∙ c.if-not-fits.false) in
     all_from_yields_List (fit_part n) _ _ _ c.all.ensures.ran (YieldsList-from_slice (take s.depth s.indents) c.iter.ensures.rest) (λ x b q k. search (rules, tests))
-    ∙ all_open n s.indents s.depth (omega arith)
-    ∙ sym (open-decides n s c.if-n-place.false positive low held c.if-depth-gt-MAX_OPEN.false)
+    ∙ all_open n s.indents s.depth (omega (arith, front-depth _ _ h))
+    ∙ sym (rw h at (fit_parts n s))
