@@ -7,6 +7,7 @@ use native.Mathlib.Omega.{arith}
 use lib.ListN.{length, take, get_or}
 use borrow.Author.Tests.{le-leb, lt-leb, lt-ltb, le-ltb}
 use Rattle.std.specs.Prelude.{Result, Ok, Err}
+use Rattle.text.specs.Numbers.{error}
 use Rattle.text.specs.declared.bytes.Part.{Part}
 use Rattle.text.specs.declared.refusals.Refusal.{Refusal}
 use Rattle.text.specs.declared.refusals.Refusal.TheVariants.{InvalidUtf8}
@@ -19,7 +20,7 @@ use Rattle.tokenizer.specs.declared.token.Token.{Token}
 use Rattle.tokenizer.specs.declared.token.Token.TheVariants as token
 use Rattle.tokenizer_rows.specs.Rows.{row_of, token_in}
 use Rattle.tokenizer_rows.proofs.Back.{kinds}
-use Rattle.unescape_source.specs.Source.{source_in, source_of, error}
+use Rattle.unescape_source.specs.Source.{source_in, source_of}
 use Rattle.unescape.specs.Unescape.{unescape_of}
 use Rattle.unescape.specs.declared.answer.Answer.{Answer}
 use Rattle.unescape.specs.declared.answer.Answer.TheVariants as answer

@@ -1,12 +1,8 @@
 -- The port's own: unescaping given bytes over lent words. A token's kind says how they are read; the answer is five words,
 -- as for a token of a document, with places counted from the text's start.
-use Rattle.std.specs.Prelude.{ℕ, List, Bool, ◌&&◌, leb, length}
+use Rattle.std.specs.Prelude.{ℕ, List, ◌&&◌, leb, length}
 use Rattle.unescape.specs.Texts.{style_of, unescape_text_of}
-use Rattle.answer_words.specs.Texts.{answer_size, Texts, answered}
-
--- a token's kind
-abbrev pub is_kind : ℕ → Bool
-is_kind k = leb 1 k && leb k 10
+use Rattle.answer_words.specs.Texts.{answer_size, is_kind, Texts, answered}
 
 -- the text s of a token of kind k on line l with the indentation i, the buffer o, and w for the answer
 unfoldable pub given_text_of : ℕ → ℕ → List ℕ → List ℕ → List ℕ → List ℕ → Texts

@@ -18,9 +18,13 @@ answer_words (Ok (Plain p)) = 0 ∷ 0 ∷ 0 ∷ p.start ∷ p.end ∷ []
 answer_words (Ok (Written n)) = 1 ∷ 0 ∷ 0 ∷ 0 ∷ n ∷ []
 answer_words (Err e) = 2 ∷ number_of e.error.refusal ∷ e.error.line ∷ e.shown.start ∷ e.shown.end ∷ []
 
+-- a token's kind
+abbrev pub is_kind : ℕ → Bool
+is_kind k = leb 1 k && leb k 10
+
 -- a token's row: six words or more, of which the first is a token's kind
 unfoldable pub is_token : List ℕ → Bool
-is_token w = leb 6 (length w) && (leb 1 (get_or w 0 0) && leb (get_or w 0 0) 10)
+is_token w = leb 6 (length w) && is_kind (get_or w 0 0)
 
 -- over the limit every row has an answer, 12; else a token's row has
 abbrev pub has_answer : List ℕ → List ℕ → Bool

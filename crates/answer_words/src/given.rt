@@ -1,19 +1,12 @@
 // Unescaping given bytes over lent words: a token's kind says how they are read, the answer is in five words.
 ghost use Rattle.std.specs.Prelude.{◌≡◌};
-ghost use Rattle.answer_words.specs.Given.{is_kind, given_text_of};
+ghost use Rattle.answer_words.specs.Given.{given_text_of};
 
-use crate::texts::answer_words;
-use tokenizer_words::paste;
-
-fn is_kind(kind: usize) -> bool
-    ensures { result ≡ is_kind kind }
-{
-    (1 <= kind) & (kind <= 10)
-}
+use crate::texts::{answer_words, is_kind};
 
 // Unescapes the text of a token, given the token's kind and line, and writes the answer at the front of its words:
 // true; or false, with nothing written, where there is no such kind or there are fewer than five words for the answer.
-#[tactic(auto, using(crate::proofs::Front::five_in_front, std::proofs::lemmas::Bool::Decides::nat_tests), unfolding(crate::specs::Given::given_text_of))]
+#[tactic(auto, using(std::proofs::lemmas::Bool::Decides::nat_tests), unfolding(crate::specs::Given::given_text_of))]
 pub fn unescape_text(
     kind: usize,
     line: usize,
@@ -29,12 +22,11 @@ pub fn unescape_text(
     if !is_kind(kind) {
         return false;
     }
-    if answer.len() < 5 {
+    let Some(front) = answer.first_chunk_mut::<5>() else {
         return false;
-    }
+    };
     let reading = unescape::style_of(kind);
     let a = unescape::unescape_text(reading, text, indent, line, out);
-    let w = answer_words(a);
-    paste(&w, 0, answer);
+    *front = answer_words(a);
     true
 }

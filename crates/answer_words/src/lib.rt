@@ -5,4 +5,4 @@ mod given;
 mod texts;
 
 pub use given::unescape_text;
-pub use texts::unescape;
+pub use texts::{PLAIN, REFUSED, WRITTEN, unescape};

@@ -13,9 +13,7 @@ use Rattle.parser.proofs.Examples.{rules as parsing_rules}
 use Rattle.tokenizer_rows.specs.Rows.{rows_of, rows_in, token_in}
 use Rattle.tokenizer_words.specs.Words.{flag, held_words, part_words, front_words, words_of, stored_in, parts_in, state_in, readable, fresh_in}
 use Rattle.parser_words.specs.ParserWords.{
-  sort_word,
   section_words,
-  awaited_words,
   kept_words,
   middle_words,
   parser_words,
@@ -49,9 +47,7 @@ unfolding
     step_kept
     step_of
     fresh
-    sort_word
     section_words
-    awaited_words
     kept_words
     middle_words
     parser_words

@@ -7,7 +7,7 @@ ghost use Rattle.batches.specs.Walks.{stepping, last_of, next_of};
 use step_words::{Layer, step_in, stops};
 use text::Refusal;
 use tokenizer::{Said, State};
-use tokenizer_rows::{bare_row, said_row};
+use tokenizer_rows::said_row;
 
 // The refusals before the first step: 2^63, which is above any count of rows, and 12 or 15. Numbers, since C has one
 // for a batch's answer.
@@ -57,6 +57,6 @@ pub fn next(doc: &[u8], words: &mut [usize; 278], row: &mut [usize; 7])
     }
     let t = take_rows(doc, Layer::Parser, words, row);
     if let Some(last) = t.last {
-        *row = bare_row(last, 0);
+        *row = said_row(Said::bare(last, 0));
     }
 }

@@ -3,4 +3,4 @@
 
 mod found;
 
-pub use found::look_up;
+pub use found::{AT, NOTHING, look_up};

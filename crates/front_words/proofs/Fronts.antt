@@ -7,6 +7,7 @@ use native.Mathlib.Omega.{arith}
 use lib.ListN.{length, drop, get_or, length-append, length-drop, get_or-eq_default}
 use lib.Seq.{get_or-drop, drop-drop}
 use borrow.Author.Tests.{lt-ltb}
+use Rattle.text.specs.Bytes.{part}
 use Rattle.text.specs.declared.bytes.Part.{Part}
 use Rattle.tokenizer_rules.specs.declared.plan.Change.{Change}
 use Rattle.tokenizer_rules.specs.declared.plan.Change.TheVariants.{Keep, Open, Close, Hold}
@@ -25,7 +26,7 @@ use Rattle.front_words.specs.Fronts.{slot_in, committed}
 
 -- the innermost of n open indentations
 pub inner-at : (w : List ℕ) (n : ℕ) → (n ≡ 0 → ⊥) → n ≤ 64
-    → Path Part (record { start = get_or w (7 + 2 * n) 0; end = get_or w (8 + 2 * n) 0 }) (inner_of (parts_in 64 (drop 9 w)) n)
+    → part (get_or w (7 + 2 * n) 0) (get_or w (8 + 2 * n) 0) ≡ inner_of (parts_in 64 (drop 9 w)) n
 inner-at w zero z h = absurd (z refl)
 inner-at w (suc k) z h =
     let i : 9 + 2 * k ≡ 7 + 2 * suc k = omega arith in

@@ -1,6 +1,7 @@
 // The tokenizer's part of the words: but for the slot of an indentation that opens, a step writes only the nine words
 // before the slots.
 ghost use Rattle.std.specs.Prelude.{◌≡◌, drop};
+ghost use Rattle.text.specs.Numbers.{max_open};
 ghost use Rattle.tokenizer.specs.Step.{inner_of};
 ghost use Rattle.tokenizer_words.specs.Words.{parts_in};
 ghost use Rattle.front_words.specs.Fronts.{slot_in, committed};
@@ -12,13 +13,13 @@ use tokenizer_words::{front_words, paste};
 
 // The innermost of the open indentations in the slots; empty where there is none.
 pub fn inner_in(depth: usize, w: &[usize; 278]) -> Part
-    ensures { result ≡ inner_of (parts_in 64 (drop 9 w.now)) depth }
+    ensures { result ≡ inner_of (parts_in max_open (drop 9 w.now)) depth }
 {
     if depth == 0 {
-        return Part { start: 0, end: 0 };
+        return Part::EMPTY;
     }
     if State::MAX_OPEN < depth {
-        return Part { start: 0, end: 0 };
+        return Part::EMPTY;
     }
     Part {
         start: w[7 + 2 * depth],

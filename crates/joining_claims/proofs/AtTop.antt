@@ -1,11 +1,12 @@
 -- Where a document's parsing stands at its end, unless it has refused: at the top level, whose sort is that of the first
 -- top-level entry that was said.
-use Rattle.std.specs.Prelude.{Some, None, Ok}
+use Rattle.std.specs.Prelude.{Option, Some, None, Ok}
+use Rattle.std.specs.Result.{is_ok}
 use Rattle.tokenizer.specs.Token.{Answer as Came}
 use Prim.Native.Nat.{ℕ, suc, ◌≤◌, ◌<◌}
 use mathlib.Core.Path.{◌≡◌, sym, ap, ◌∙◌, subst}
 use mathlib.Core.List.{List, [], ◌∷◌, ◌++◌}
-use mathlib.Core.Bool.{true, false}
+use mathlib.Core.Bool.{true}
 use native.Mathlib.Omega.{arith}
 use lib.ListN.{length}
 use Rattle.text.proofs.Cases.{by_bool, clash}
@@ -36,14 +37,14 @@ use Rattle.joining_claims.proofs.Behind.{at_top}
 
 once_runs : (s : Stand) (r : Ruling) → Turns s.sections r → 0 < length (fed_once s r).next.sections → (fed_once s r).goes_on ≡ true
     → Runs s.sections (fed_once s r).says (fed_once s r).next.sections
-once_runs s (Says v) t h g = by_bool v.refused (λ e. absurd (clash (sym (rw e at g)))) (λ e. more (t.1 e) h done)
+once_runs s (Says v) t h g = more (t.0 g) h done
 once_runs s End t h g = done
 once_runs s Unfit t h g = absurd (clash (sym g))
 
 -- a NoValue, and what was kept behind it
-again-runs : (s : Stand) (v : Verdict) (c : Came) → (v.refused ≡ false → Turn s.sections v.answer v.change)
-    → (v.refused ≡ false) × (v.change ≡ Keep) → 0 < length s.sections → 0 < length (again s v c).next.sections
-    → (again s v c).goes_on ≡ true → Runs s.sections (v.answer ∷ (again s v c).says) (again s v c).next.sections
+again-runs : (s : Stand) (v : Verdict) (c : Came) → (is_ok v.answer ≡ true → Turn s.sections (Some v.answer) v.change)
+    → (is_ok v.answer ≡ true) × (v.change ≡ Keep) → 0 < length s.sections → 0 < length (again s v c).next.sections
+    → (again s v c).goes_on ≡ true → Runs s.sections (Some v.answer ∷ (again s v c).says) (again s v c).next.sections
 again-runs s v c f k n h g =
     more (f k.0) (subst (λ x. 0 < length (stack_after x s.sections)) (sym k.1) n)
     (once_runs (stand_after s v) (ruled (stand_after s v) c) (ruling-turns (stand_after s v).sections v.awaited c) h g)
@@ -52,8 +53,8 @@ twice-runs : (s : Stand) (k : Kept) (v : Verdict) → Turns s.sections (Says v) 
     → 0 < length (fed_twice s k v).next.sections
     → (fed_twice s k v).goes_on ≡ true → Runs s.sections (fed_twice s k v).says (fed_twice s k v).next.sections
 twice-runs s kept.Nothing v t k n h g = once_runs s (Says v) t h g
-twice-runs s kept.End v t k n h g = again-runs s v None t.1 k n h g
-twice-runs s (kept.Token x) v t k n h g = again-runs s v (Some (Ok x)) t.1 k n h g
+twice-runs s kept.End v t k n h g = again-runs s v None t.0 k n h g
+twice-runs s (kept.Token x) v t k n h g = again-runs s v (Some (Ok x)) t.0 k n h g
 
 feed-runs : (s : Stand) (c : Came) → 0 < length s.sections → 0 < length (feed s c).next.sections → (feed s c).goes_on ≡ true
     → Runs s.sections (feed s c).says (feed s c).next.sections
@@ -62,7 +63,7 @@ feed-runs s c n = by-ruling (ruled s c) (ruling-turns s.sections s.awaited c)
   where
     by-ruling : (r : Ruling) → Turns s.sections r → 0 < length (fed_by s r).next.sections → (fed_by s r).goes_on ≡ true
         → Runs s.sections (fed_by s r).says (fed_by s r).next.sections
-    by-ruling (Says v) t h g = twice-runs s v.kept v t t.2 n h g
+    by-ruling (Says v) t h g = twice-runs s v.kept v t t.1 n h g
     by-ruling End t h g = done
     by-ruling Unfit t h g = absurd (clash (sym g))
 
@@ -111,7 +112,7 @@ module _ (d : List ℕ) (h : length d ≤ 16777216) where
 
 -- at the end no section is open but the top level
 pub record Topped (f : Fed) : Type 0 where
-  pub sort : Sort
+  pub sort : Option Sort
   pub next : f.next ≡ at_top f.next.awaited sort
   pub runs : Runs (no_sort ∷ []) f.says (level sort ∷ [])
 

@@ -28,7 +28,7 @@ use Rattle.tokenizer.specs.declared.token.Token.TheVariants.{
 use Rattle.tokenizer_claims.proofs.Claimed.{fit as reading-fit}
 use Rattle.parser.specs.Lists.{Stand, Fed, innermost, feed, parsed, fresh_stand, parse, entry_sort, top_sort}
 use Rattle.parser_rules.specs.declared.ruling.Sort.{Sort}
-use Rattle.parser_rules.specs.declared.ruling.Sort.TheVariants.{Unset}
+use Rattle.parser_rules.specs.declared.ruling.Sort.TheVariants.{Map, List as Listed}
 use Rattle.parser_rules.specs.declared.ruling.Awaited.TheVariants as awaited
 use Rattle.parser_claims.specs.Claims.{Fits, All}
 use Rattle.parser_claims.specs.Opened.{Carries}
@@ -42,7 +42,7 @@ use Rattle.joining_claims.proofs.Joined.{left_le, right_le, tokens-joined}
 use Rattle.joining_claims.proofs.Unescaping.{token-above, token-below, each-token}
 use Rattle.joining_claims.proofs.Feeding.{fed, parsed-append}
 use Rattle.joining_claims.proofs.RaisedParse.{top, Rises, parsed-raised}
-use Rattle.joining_claims.proofs.Tops.{top-sort}
+use Rattle.joining_claims.proofs.Tops.{entry-sort, top-sort}
 use Rattle.joining_claims.proofs.Behind.{at_top, hinted, behind, entry-after}
 use Rattle.joining_claims.proofs.Ending.{stopped, Went, went}
 
@@ -53,8 +53,8 @@ entry-raised l n item = item
 entry-raised l n key = key
 
 -- the sort of an innermost section
-abbrev innermost_sort : Option Section → Sort
-innermost_sort None = Unset
+abbrev innermost_sort : Option Section → Option Sort
+innermost_sort None = None
 innermost_sort (Some i) = i.sort
 
 -- Clause 3 where P went on to its end
@@ -62,7 +62,7 @@ module _ (p : List ℕ) (f : Fed) (o : Went p f) where
   same-sort : hinted f.next.awaited ≡ false → top_sort (parse p) ≡ o.sort
   same-sort e = sym (ap (λ l. innermost_sort (innermost l)) (top-sort (o.runs e) refl))
 
-  module _ (l n : ℕ) (t : Token) (e : Entry t (line_of t) (entry_sort t)) (cs : List Came)
+  module _ (l n : ℕ) (t : Token) {s : Sort} (e : Entry t (line_of t) s) (cs : List Came)
       (u : All Rises (parsed fresh_stand (Some (Ok t) ∷ cs))) where
     entry-joined : hinted f.next.awaited ≡ false
         → parsed (at_top awaited.Nothing o.sort) (raised l n (Some (Ok t) ∷ cs))
@@ -70,7 +70,7 @@ module _ (p : List ℕ) (f : Fed) (o : Went p f) where
     unfolding raise
     entry-joined h =
         entry-after o.sort (raised l n cs) (entry-raised l n e)
-        ∙ rw (o.refused, h, same-sort h, parsed-raised l n awaited.Nothing top (Some (Ok t) ∷ cs) u)
+        ∙ rw (o.refused, h, same-sort h, entry-sort e, parsed-raised l n awaited.Nothing top (Some (Ok t) ∷ cs) u)
 
     list-joined : f.says ++ parsed (at_top f.next.awaited o.sort) (raised l n (Some (Ok t) ∷ cs))
         ≡ parse p ++ below (parse p) t l (map (raise l n) (parsed fresh_stand (Some (Ok t) ∷ cs)))
@@ -92,10 +92,10 @@ rises d (None ∷ l) f c = absurd f.0
 rises d (Some (Ok t) ∷ l) f c = (c.0, rises d l f.1 c.1)
 rises d (Some (Err e) ∷ l) f c = (λ e. omega (arith, f.0), rises d l f.1 c.1)
 
-is-entry : (t : Token) → (entry_sort t ≡ Unset → ⊥) → Entry t (line_of t) (entry_sort t)
+is-entry : (t : Token) → (entry_sort t ≡ None → ⊥) → (s : Sort) × Entry t (line_of t) s
 unfolding line_of
-is-entry (ListItem m) n = item
-is-entry (MapKey m q) n = key
+is-entry (ListItem m) n = (Listed, item)
+is-entry (MapKey m q) n = (Map, key)
 is-entry (Newline m) n = absurd (n refl)
 is-entry (Comment m q) n = absurd (n refl)
 is-entry (Indent m) n = absurd (n refl)
@@ -125,7 +125,7 @@ module _ (p s : List ℕ) (c : Closed p) (b : top_level s ≡ true) (h : length 
       rw x.refused (b ∙ sym x.list ∙ sym (append-nil (parse p)))
 
   -- P went on to its end
-  going-joined : (t : Token) (cs : List Came) → tokens s ≡ Some (Ok t) ∷ cs → Entry t (line_of t) (entry_sort t)
+  going-joined : (t : Token) (cs : List Came) → tokens s ≡ Some (Ok t) ∷ cs → {r : Sort} → Entry t (line_of t) r
       → (fed fresh_stand (tokens p)).goes_on ≡ true
       → parse (p ++ s) ≡ parse p ++ below (parse p) t (breaks p) (map (raise (breaks p) (length p)) (parse s))
   going-joined t cs q e g =
@@ -144,7 +144,7 @@ module _ (p s : List ℕ) (c : Closed p) (b : top_level s ≡ true) (h : length 
   parse-joined : (l : List Came) → tokens s ≡ l → (t : Token) → Begins l t
       → parse (p ++ s) ≡ parse p ++ below (parse p) t (breaks p) (map (raise (breaks p) (length p)) (parse s))
   parse-joined l q t (begins {as₁ = cs} n) =
-      by_bool (fed fresh_stand (tokens p)).goes_on (going-joined t cs q (is-entry t n)) (stopped-joined t)
+      by_bool (fed fresh_stand (tokens p)).goes_on (going-joined t cs q (is-entry t n).1) (stopped-joined t)
 
 pub demand3 : Demand3
 demand3 p s c b h = record {

@@ -1,6 +1,6 @@
 -- How the parsing of a document ends. Where its tokens made the parser stop, they made all of its answers, with a
 -- refusal among them; else the document's end comes at the top level.
-use Rattle.std.specs.Prelude.{None}
+use Rattle.std.specs.Prelude.{Option, None}
 use Prim.Native.Nat.{ℕ, ◌≤◌}
 use mathlib.Core.Path.{◌≡◌, refl, ap, ◌∙◌}
 use mathlib.Core.List.{List, [], ◌∷◌, ◌++◌, append-nil}
@@ -22,14 +22,14 @@ use Rattle.joining_claims.proofs.Behind.{at_top, hinted}
 use Rattle.joining_claims.proofs.AtTop.{stands_at_top}
 
 -- a hint is refused at the end, and nothing else is
-end_refused : (a : Awaited) (s : Sort) → refused_in (feed (at_top a s) None).says ≡ hinted a
+end_refused : (a : Awaited) (s : Option Sort) → refused_in (feed (at_top a s) None).says ≡ hinted a
 unfolding feed ruling_of on_end refused_in
 end_refused awaited.Nothing s = refl
 end_refused (awaited.Value m) s = refl
 end_refused (awaited.Multiline m) s = refl
 
 -- the sections stay
-end-runs : (a : Awaited) (s : Sort) → hinted a ≡ false
+end-runs : (a : Awaited) (s : Option Sort) → hinted a ≡ false
     → Runs (level s ∷ []) (feed (at_top a s) None).says (level s ∷ [])
 unfolding feed ruling_of on_end
 end-runs awaited.Nothing s e = done
@@ -43,7 +43,7 @@ pub record Stopped (d : List ℕ) (f : Fed) : Type 0 where
 
 -- or went on
 pub record Went (d : List ℕ) (f : Fed) : Type 0 where
-  pub sort : Sort
+  pub sort : Option Sort
   pub next : f.next ≡ at_top f.next.awaited sort
   pub list : parse d ≡ f.says ++ (feed (at_top f.next.awaited sort) None).says
   pub refused : refused_in (parse d) ≡ hinted f.next.awaited

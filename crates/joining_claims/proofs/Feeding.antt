@@ -1,6 +1,9 @@
 -- The parser over a list in two parts: what the first part makes it say, then the second part from where it then stands, unless
 -- it has stopped. It stops exactly where it has refused.
-use Rattle.std.specs.Prelude.{Some, None, Ok, Err}
+use Rattle.std.specs.Prelude.{Some, None, Result, Ok, Err}
+use Rattle.std.specs.Result.{is_ok}
+use Rattle.text.specs.declared.refusals.SyntaxError.{SyntaxError}
+use Rattle.tokenizer.specs.declared.token.Token.{Token}
 use Rattle.tokenizer.specs.Token.{Answer as Came, Answer}
 use mathlib.Core.Path.{◌≡◌, refl, sym, ap, ◌∙◌}
 use mathlib.Core.List.{List, [], ◌∷◌, ◌++◌, append_assoc, append-nil}
@@ -47,27 +50,31 @@ refused-append (Some (Err e) ∷ l) m = refl
 refused-cons : (a : Answer) (l : List Answer) → refused_in (a ∷ []) ≡ false → refused_in (a ∷ l) ≡ refused_in l
 refused-cons a l e = refused-append (a ∷ []) l ∙ rw e
 
-once-stops : (s : Stand) (r : Ruling) → Turns s.sections r → refused_in (fed_once s r).says ≡ not (fed_once s r).goes_on
+-- one answer is a refusal, or a token
+refused_one : (r : Result Token SyntaxError) → refused_in (Some r ∷ []) ≡ not (is_ok r)
 unfolding refused_in
-once-stops s (Says v) t = rw t.0 (by_bool v.refused (λ e. rw e) (λ e. rw e))
-once-stops s End t = refl
-once-stops s Unfit t = refl
+refused_one (Ok t) = refl
+refused_one (Err e) = refl
+
+once-stops : (s : Stand) (r : Ruling) → refused_in (fed_once s r).says ≡ not (fed_once s r).goes_on
+unfolding refused_in
+once-stops s (Says v) = refused_one v.answer
+once-stops s End = refl
+once-stops s Unfit = refl
 
 -- what was kept comes again, after the answer of v
 abbrev pub again : Stand → Verdict → Came → Fed
 again s v c = fed_once (stand_after s v) (ruled (stand_after s v) c)
 
-again-stops : (s : Stand) (v : Verdict) (c : Came) → refused_in (v.answer ∷ []) ≡ v.refused → v.refused ≡ false
-    → refused_in (v.answer ∷ (again s v c).says) ≡ not (again s v c).goes_on
-again-stops s v c e f =
-    refused-cons v.answer _ (e ∙ f)
-    ∙ once-stops (stand_after s v) (ruled (stand_after s v) c) (ruling-turns (stand_after s v).sections v.awaited c)
+again-stops : (s : Stand) (v : Verdict) (c : Came) → is_ok v.answer ≡ true
+    → refused_in (Some v.answer ∷ (again s v c).says) ≡ not (again s v c).goes_on
+again-stops s v c f =
+    refused-cons (Some v.answer) _ (refused_one v.answer ∙ ap not f) ∙ once-stops (stand_after s v) (ruled (stand_after s v) c)
 
-twice-stops : (s : Stand) (k : Kept) (v : Verdict) → refused_in (v.answer ∷ []) ≡ v.refused → Keeps k v
-    → refused_in (fed_twice s k v).says ≡ not (fed_twice s k v).goes_on
-twice-stops s kept.Nothing v e g = rw e (by_bool v.refused (λ e. rw e) (λ e. rw e))
-twice-stops s kept.End v e g = again-stops s v None e g.0
-twice-stops s (kept.Token t) v e g = again-stops s v (Some (Ok t)) e g.0
+twice-stops : (s : Stand) (k : Kept) (v : Verdict) → Keeps k v → refused_in (fed_twice s k v).says ≡ not (fed_twice s k v).goes_on
+twice-stops s kept.Nothing v g = refused_one v.answer
+twice-stops s kept.End v g = again-stops s v None g.0
+twice-stops s (kept.Token t) v g = again-stops s v (Some (Ok t)) g.0
 
 -- one answer of the tokenizer: it stops exactly where it has refused
 feed-stops : (s : Stand) (c : Came) → refused_in (feed s c).says ≡ not (feed s c).goes_on
@@ -75,9 +82,9 @@ unfolding feed
 feed-stops s c = by-ruling (ruled s c) (ruling-turns s.sections s.awaited c)
   where
     by-ruling : (r : Ruling) → Turns s.sections r → refused_in (fed_by s r).says ≡ not (fed_by s r).goes_on
-    by-ruling (Says v) t = twice-stops s v.kept v t.0 t.2
-    by-ruling End t = once-stops s End t
-    by-ruling Unfit t = once-stops s Unfit t
+    by-ruling (Says v) t = twice-stops s v.kept v t.1
+    by-ruling End t = once-stops s End
+    by-ruling Unfit t = once-stops s Unfit
 
 -- a list of them
 pub fed-stops : (s : Stand) (l : List Came) → refused_in (fed s l).says ≡ not (fed s l).goes_on

@@ -4,14 +4,16 @@
 use Rattle.text.specs.declared.refusals.Refusal.TheVariants.{UnexpectedKey, UnexpectedItem}
 use Rattle.text.specs.declared.refusals.Refusal.{Refusal}
 use Rattle.text.specs.Numbers.{number_of}
-use Rattle.std.specs.Prelude.{Some, None, Ok, Err}
+use Rattle.std.specs.Prelude.{Option, Some, None, Result, Ok, Err}
+use Rattle.std.specs.Result.{is_ok}
+use Rattle.text.specs.declared.refusals.SyntaxError.{SyntaxError}
 use Rattle.tokenizer.specs.Token.{Answer as Came, Answer}
 use Prim.Native.Nat.{ℕ, ◌+◌, zero, suc, ◌<◌}
-use mathlib.Core.Path.{◌≡◌, refl, sym, ap}
+use mathlib.Core.Path.{◌≡◌, refl, ap}
 use mathlib.Core.List.{List, [], ◌∷◌, ◌++◌, map, map-append}
 use mathlib.Core.Bool.{Bool, true, false, cond}
 use native.Mathlib.Omega.{arith}
-use Rattle.text.proofs.Cases.{by_bool, clash}
+use Rattle.text.proofs.Cases.{by_bool}
 use Rattle.tokenizer.specs.declared.token.Token.{Token}
 use Rattle.tokenizer.specs.declared.token.Token.TheVariants.{
   Newline,
@@ -42,7 +44,7 @@ use Rattle.parser_claims.specs.Claims.{All}
 use Rattle.parser_claims.specs.Opened.{Carries}
 use Rattle.parser_claims.proofs.Rulings.{stand}
 use Rattle.parser_claims.proofs.Given.{Entry, item, key, passes, enters, opens, closes}
-use Rattle.joining_claims.specs.Raising.{raise_token, raise_opened, raise, raised}
+use Rattle.joining_claims.specs.Raising.{raise_token, raise_opened, raise_said, raise, raised}
 use Rattle.joining_claims.proofs.Tops.{level, Turn, misses, moves}
 use Rattle.joining_claims.proofs.Ruled.{Keeps, Turns, ruling-turns}
 
@@ -64,12 +66,16 @@ raise_kept l n (kept.Token t) = kept.Token (raise_token l n t)
 
 abbrev raise_verdict : ℕ → ℕ → Verdict → Verdict
 raise_verdict l n v = record {
-  answer = raise l n v.answer;
+  answer = raise_said l n v.answer;
   awaited = raise_awaited l v.awaited;
   change = raise_change l v.change;
   kept = raise_kept l n v.kept;
-  refused = v.refused;
 }
+
+-- raised, a refusal is one, and a token
+said-raised : (l n : ℕ) (r : Result Token SyntaxError) → is_ok (raise_said l n r) ≡ is_ok r
+said-raised l n (Ok t) = refl
+said-raised l n (Err e) = refl
 
 abbrev raise_ruling : ℕ → ℕ → Ruling → Ruling
 raise_ruling l n (Says v) = Says (raise_verdict l n v)
@@ -78,7 +84,7 @@ raise_ruling l n Unfit = Unfit
 
 -- the sections above the top level, raised
 pub data Raised (l : ℕ) : List Section → List Section → Type 0 where
-  top : {s : Sort} → Raised l (level s ∷ []) (level s ∷ [])
+  top : {s : Option Sort} → Raised l (level s ∷ []) (level s ∷ [])
   above : {s : Section} {a b : List Section} → Raised l a b
       → Raised l (s ∷ a) (record { sort = s.sort; line = l + s.line } ∷ b)
 
@@ -93,7 +99,7 @@ Rises (Some (Ok t)) = Carries (Some (Ok t))
 Rises (Some (Err e)) = number_of e.refusal ≡ 15 → ⊥
 
 abbrev RulingRises : Ruling → Type 0
-RulingRises (Says v) = Rises v.answer
+RulingRises (Says v) = Rises (Some v.answer)
 RulingRises End = Unit {0}
 RulingRises Unfit = ⊥
 
@@ -176,7 +182,7 @@ once-rises s Unfit e = e.0 refl
 by-rises : (s : Stand) (r : Ruling) → All Rises (fed_by s r).says → RulingRises r
 by-rises s (Says v) e = first v.kept e
   where
-    first : (k : Kept) → All Rises (fed_twice s k v).says → Rises v.answer
+    first : (k : Kept) → All Rises (fed_twice s k v).says → Rises (Some v.answer)
     first kept.Nothing e = e.0
     first kept.End e = e.0
     first (kept.Token t) e = e.0
@@ -212,10 +218,15 @@ record RaisedFed (l n : ℕ) (f g : Fed) : Type 0 where
 module _ (l n : ℕ) where
   once-raised : (w : Awaited) {a b : List Section} → Raised l a b → (r : Ruling) → Turns a r → RulingRises r
       → RaisedFed l n (fed_once (stand w a) r) (fed_once (high l w b) (raise_ruling l n r))
+  unfolding raise
   once-raised w {b = b} x (Says v) t e = record {
     sections = stack_after (raise_change l v.change) b;
-    same = refl;
-    raised = λ g. by_bool v.refused (λ f. absurd (clash (sym (rw f at g)))) (λ f. after-raised x (t.1 f) e);
+    same = λ i. record {
+      says = Some (raise_said l n v.answer) ∷ [];
+      next = high l v.awaited (stack_after (raise_change l v.change) b);
+      goes_on = said-raised l n v.answer i;
+    };
+    raised = λ g. after-raised x (t.0 g) e;
   }
   once-raised w {b = b} x End t e = record { sections = b; same = refl; raised = λ g. x }
   once-raised w x Unfit t e = absurd e
@@ -238,13 +249,13 @@ module _ (l n : ℕ) where
   unfolding raise
   twice-raised w x kept.Nothing v t g e = once-raised w x (Says v) t e.0
   twice-raised w x kept.End v t g e =
-      again-raised v.awaited (after-raised x (t.1 g.0) e.0) v.answer None e.1
+      again-raised v.awaited (after-raised x (t.0 g.0) e.0) (Some v.answer) None e.1
   twice-raised w x (kept.Token y) v t g e =
-      again-raised v.awaited (after-raised x (t.1 g.0) e.0) v.answer (Some (Ok y)) e.1
+      again-raised v.awaited (after-raised x (t.0 g.0) e.0) (Some v.answer) (Some (Ok y)) e.1
 
   by-raised : (w : Awaited) {a b : List Section} → Raised l a b → (r : Ruling) → Turns a r → All Rises (fed_by (stand w a) r).says
       → RaisedFed l n (fed_by (stand w a) r) (fed_by (high l w b) (raise_ruling l n r))
-  by-raised w x (Says v) t e = twice-raised w x v.kept v t t.2 e
+  by-raised w x (Says v) t e = twice-raised w x v.kept v t t.1 e
   by-raised w x End t e = once-raised w x End t tt
   by-raised w x Unfit t e = absurd (e.0 refl)
 

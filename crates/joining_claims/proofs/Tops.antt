@@ -1,6 +1,6 @@
 -- The sort of the top level: what the parser keeps for it at the bottom of its sections is the sort of the first top-level entry
 -- among its answers.
-use Rattle.std.specs.Prelude.{Some, Ok}
+use Rattle.std.specs.Prelude.{Option, Some, None, Ok}
 use Rattle.tokenizer.specs.Token.{Answer}
 use Prim.Native.Nat.{ℕ, suc, ◌+◌, ◌<◌}
 use mathlib.Core.Path.{◌≡◌, refl, sym, ap, subst, ◌∙◌}
@@ -17,7 +17,7 @@ use Rattle.parser_rules.specs.Ruling.{clashes}
 use Rattle.parser.specs.Step.{unsorted, no_sort}
 use Rattle.parser.specs.Lists.{innermost, stack_after, top_entries, entry_sort, sort_of, top_sort}
 use Rattle.parser_rules.specs.declared.ruling.Sort.{Sort}
-use Rattle.parser_rules.specs.declared.ruling.Sort.TheVariants.{Unset, Map, List as Listed}
+use Rattle.parser_rules.specs.declared.ruling.Sort.TheVariants.{Map, List as Listed}
 use Rattle.parser_rules.specs.declared.ruling.Awaited.{Awaited}
 use Rattle.parser_rules.specs.declared.ruling.Change.{Change}
 use Rattle.parser_rules.specs.declared.ruling.Change.TheVariants.{Keep, Fix, Close}
@@ -41,7 +41,7 @@ use Rattle.parser_claims.proofs.Given.{
 use Rattle.joining_claims.specs.TopSort.{OfSort}
 
 -- the record of the top level, which no line opens
-abbrev pub level : Sort → Section
+abbrev pub level : Option Sort → Section
 level s = record { sort = s; line = 0 }
 
 -- what is said, a NoValue or a token that is given on, and what it does to the sections
@@ -61,32 +61,25 @@ runs_append done s = s
 runs_append (more t h r) s = more t h (runs_append r s)
 
 -- the first sort that is fixed stays
-abbrev chosen : Sort → Sort → Sort
-chosen Unset s = s
-chosen Map s = Map
-chosen Listed s = Listed
+abbrev chosen : Option Sort → Option Sort → Option Sort
+chosen None s = s
+chosen (Some r) s = Some r
 
-chosen_none : (s : Sort) → chosen s Unset ≡ s
-chosen_none Unset = refl
-chosen_none Map = refl
-chosen_none Listed = refl
+chosen_none : (s : Option Sort) → chosen s None ≡ s
+chosen_none None = refl
+chosen_none (Some r) = refl
 
 -- an entry that does not clash has the sort of its section from then on
-chosen-stays : {t : Token} {m : ℕ} {s : Sort} → Entry t m s → (r : Sort) → chosen s r ≡ s
-chosen-stays item r = refl
-chosen-stays key r = refl
-
-chosen-fixed : {t : Token} {m : ℕ} {s : Sort} → Entry t m s → (j : Sort) → clashes j s ≡ false → chosen j s ≡ s
-chosen-fixed item Unset e = refl
-chosen-fixed item Map e = absurd (clash e)
-chosen-fixed item Listed e = refl
-chosen-fixed key Unset e = refl
-chosen-fixed key Map e = refl
-chosen-fixed key Listed e = absurd (clash e)
+chosen-fixed : (j : Option Sort) (s : Sort) → clashes j s ≡ false → chosen j (Some s) ≡ Some s
+chosen-fixed None s e = refl
+chosen-fixed (Some Map) Map e = refl
+chosen-fixed (Some Map) Listed e = absurd (clash e)
+chosen-fixed (Some Listed) Map e = absurd (clash e)
+chosen-fixed (Some Listed) Listed e = refl
 
 -- Which answers are top-level entries
 
-entry-sort : {t : Token} {m : ℕ} {s : Sort} → Entry t m s → entry_sort t ≡ s
+pub entry-sort : {t : Token} {m : ℕ} {s : Sort} → Entry t m s → entry_sort t ≡ Some s
 entry-sort item = refl
 entry-sort key = refl
 
@@ -105,25 +98,25 @@ plain-none hint i o l = refl
 plain-none multiline i o l = refl
 
 -- The sections after i Indents and o Outdents: the top level has the sort s, and one more is open for each Indent left.
-record Top (sections : List Section) (i o : ℕ) (s : Sort) : Type 0 where
+record Top (sections : List Section) (i o : ℕ) (s : Option Sort) : Type 0 where
   inner : List Section
   split : sections ≡ inner ++ level s ∷ []
   count : i ≡ o + length inner
 
 -- what a turn leaves, and what it takes from the entries still to come
-record Left (sections : List Section) (i o : ℕ) (s : Sort) (a : Answer) (l : List Answer) : Type 0 where
+record Left (sections : List Section) (i o : ℕ) (s : Option Sort) (a : Answer) (l : List Answer) : Type 0 where
   ins : ℕ
   outs : ℕ
-  sort : Sort
+  sort : Option Sort
   top : Top sections ins outs sort
   rest : chosen s (sort_of (top_entries i o (a ∷ l))) ≡ chosen sort (sort_of (top_entries ins outs l))
-  each : (z : Sort) → z ≡ chosen sort (sort_of (top_entries ins outs l)) → OfSort z (top_entries ins outs l) → OfSort z (top_entries i o (a ∷ l))
+  each : (z : Option Sort) → z ≡ chosen sort (sort_of (top_entries ins outs l)) → OfSort z (top_entries ins outs l) → OfSort z (top_entries i o (a ∷ l))
 
-after_none : {sections : List Section} {i o : ℕ} {s : Sort} (a : Answer) (l : List Answer) → top_entries i o (a ∷ l) ≡ top_entries i o l
+after_none : {sections : List Section} {i o : ℕ} {s : Option Sort} (a : Answer) (l : List Answer) → top_entries i o (a ∷ l) ≡ top_entries i o l
     → Top sections i o s → Left sections i o s a l
 after_none {i = i} {o = o} {s = s} a l q t = record { ins = i; outs = o; sort = s; top = t; rest = rw q; each = λ z p e. rw q e }
 
-after-close : (inner : List Section) (s : Sort) (i o m k : ℕ) (l : List Answer) → i ≡ o + length inner
+after-close : (inner : List Section) (s : Option Sort) (i o m k : ℕ) (l : List Answer) → i ≡ o + length inner
     → 0 < length (stack_after Close (inner ++ level s ∷ []))
     → Left (stack_after Close (inner ++ level s ∷ [])) i o s (Some (Ok (Outdent m k))) l
 unfolding top_entries
@@ -138,29 +131,28 @@ after-close (x ∷ inner) s i o m k l e h = record {
 }
 
 module _ {t : Token} {m : ℕ} {r : Sort} (f : Entry t m r) where
-  after-fix : (inner : List Section) (s : Sort) (j : Section) (i o : ℕ) (l : List Answer) → innermost (inner ++ level s ∷ []) ≡ Some j
+  after-fix : (inner : List Section) (s : Option Sort) (j : Section) (i o : ℕ) (l : List Answer) → innermost (inner ++ level s ∷ []) ≡ Some j
       → clashes j.sort r ≡ false → i ≡ o + length inner → Left (stack_after (Fix r) (inner ++ level s ∷ [])) i o s (Some (Ok t)) l
   after-fix [] s j i o l q e c =
       let same : s ≡ j.sort = cc in
-      let stays = chosen-stays f (sort_of (top_entries i o l)) in
       record {
         ins = i;
         outs = o;
-        sort = r;
+        sort = Some r;
         top = record { inner = []; split = refl; count = c };
-        rest = rw (entry_top f i o l, eq-eqb i o (omega arith), entry-sort f) (chosen-fixed f s (rw same e) ∙ sym stays);
-        each = λ z q h. rw (entry_top f i o l, eq-eqb i o (omega arith)) (entry-sort f ∙ sym (q ∙ stays), h);
+        rest = rw (entry_top f i o l, eq-eqb i o (omega arith), entry-sort f) (chosen-fixed s r (rw same e));
+        each = λ z q h. rw (entry_top f i o l, eq-eqb i o (omega arith)) (entry-sort f ∙ sym q, h);
       }
   after-fix (x ∷ inner) s j i o l q e c = record {
     ins = i;
     outs = o;
     sort = s;
-    top = record { inner = record { sort = r; line = x.line } ∷ inner; split = refl; count = c };
+    top = record { inner = record { sort = Some r; line = x.line } ∷ inner; split = refl; count = c };
     rest = rw (entry_top f i o l, ne_eqb i o (λ z. omega arith));
     each = λ z q h. rw (entry_top f i o l, ne_eqb i o (λ z. omega arith)) h;
   }
 
-turn-top : {sections : List Section} {i o : ℕ} {s : Sort} {a : Answer} {c : Change} → Turn sections a c → Top sections i o s
+turn-top : {sections : List Section} {i o : ℕ} {s : Option Sort} {a : Answer} {c : Change} → Turn sections a c → Top sections i o s
     → 0 < length (stack_after c sections) → (l : List Answer) → Left (stack_after c sections) i o s a l
 unfolding top_entries
 turn-top {a = a} misses t h l = after_none a l refl t
@@ -179,14 +171,14 @@ turn-top {i = i} {o = o} {s = s} (moves (enters {j = j} f q e)) t h l =
     rw t.split (after-fix f t.inner s j i o l (rw t.split at q) e t.count)
 
 -- along a list
-runs-top : {sections after : List Section} {l : List Answer} → Runs sections l after → (i o : ℕ) (s : Sort) → Top sections i o s
+runs-top : {sections after : List Section} {l : List Answer} → Runs sections l after → (i o : ℕ) (s : Option Sort) → Top sections i o s
     → (j k : ℕ) × Top after j k (chosen s (sort_of (top_entries i o l)))
 unfolding top_entries
 runs-top done i o s t = (i, o, rw (chosen_none s) t)
 runs-top (more {l = l} u h r) i o s t = let f = turn-top u t h l in rw f.rest (runs-top r f.ins f.outs f.sort f.top)
 
 -- and all entries on the way are of the sort that is chosen
-runs-sorts : {sections after : List Section} {l : List Answer} → Runs sections l after → (i o : ℕ) (s : Sort) → Top sections i o s
+runs-sorts : {sections after : List Section} {l : List Answer} → Runs sections l after → (i o : ℕ) (s : Option Sort) → Top sections i o s
     → OfSort (chosen s (sort_of (top_entries i o l))) (top_entries i o l)
 unfolding top_entries
 runs-sorts done i o s t = tt
@@ -196,16 +188,16 @@ runs-sorts (more {l = l} u h r) i o s t =
     f.each _ f.rest (subst (λ z. OfSort z (top_entries f.ins f.outs l)) (sym f.rest) on)
 
 -- from the fresh top level on
-fresh-top : Top (no_sort ∷ []) 0 0 Unset
+fresh-top : Top (no_sort ∷ []) 0 0 None
 fresh-top = record { inner = []; split = refl; count = omega arith }
 
 pub top-sorts : {l : List Answer} {after : List Section} → Runs (no_sort ∷ []) l after → OfSort (top_sort l) (top_entries 0 0 l)
-top-sorts r = runs-sorts r 0 0 Unset fresh-top
+top-sorts r = runs-sorts r 0 0 None fresh-top
 
 -- the one section that is left at the end has the sort of the first top-level entry
 pub top-sort : {l : List Answer} {after : List Section} → Runs (no_sort ∷ []) l after → length after ≡ 1 → after ≡ level (top_sort l) ∷ []
-top-sort r e = let t = (runs-top r 0 0 Unset fresh-top).2 in only t.inner t.split e
+top-sort r e = let t = (runs-top r 0 0 None fresh-top).2 in only t.inner t.split e
   where
-    only : {after : List Section} {s : Sort} (inner : List Section) → after ≡ inner ++ level s ∷ [] → length after ≡ 1 → after ≡ level s ∷ []
+    only : {after : List Section} {s : Option Sort} (inner : List Section) → after ≡ inner ++ level s ∷ [] → length after ≡ 1 → after ≡ level s ∷ []
     only [] q e = q
     only {s = s} (x ∷ inner) q e = absurd (omega (arith, ap length q, length-append inner (level s ∷ [])))

@@ -1,9 +1,10 @@
 -- Law: document 01, 'Parser': raising adds P's number of line breaks to every line, and P's length to every start and
 -- end of a text, empty ones too, or of an indentation; kinds that carry no text keep their zeros. And document 02,
 -- request 5: the line that an Outdent carries is raised like the others.
-use Rattle.std.specs.Prelude.{Some, None, Ok, Err, zero, suc, ℕ, ◌+◌, List, map}
+use Rattle.std.specs.Prelude.{Some, None, Result, Ok, Err, zero, suc, ℕ, ◌+◌, List, map}
 use Rattle.tokenizer.specs.Token.{Answer}
 use Rattle.text.specs.Numbers.{error}
+use Rattle.text.specs.declared.refusals.SyntaxError.{SyntaxError}
 use Rattle.text.specs.Bytes.{shifted_by}
 use Rattle.tokenizer.specs.declared.token.Token.{Token}
 use Rattle.tokenizer.specs.declared.token.Token.TheVariants.{
@@ -38,10 +39,13 @@ raise_token l n (MultilineValue m i p) = MultilineValue (l + m) (shifted_by n i)
 raise_token l n (NoValue m) = NoValue (l + m)
 
 -- an answer, the tokenizer's or the parser's
+abbrev pub raise_said : ℕ → ℕ → Result Token SyntaxError → Result Token SyntaxError
+raise_said l n (Ok t) = Ok (raise_token l n t)
+raise_said l n (Err e) = Err (error e.refusal (l + e.line))
+
 unfoldable pub raise : ℕ → ℕ → Answer → Answer
 raise l n None = None
-raise l n (Some (Ok t)) = Some (Ok (raise_token l n t))
-raise l n (Some (Err e)) = Some (Err (error e.refusal (l + e.line)))
+raise l n (Some r) = Some (raise_said l n r)
 
 abbrev pub raised : ℕ → ℕ → List Answer → List Answer
 raised l n as₁ = map (raise l n) as₁

@@ -3,7 +3,7 @@ use Prim.Native.Nat.{ℕ, zero, suc, ◌+◌, ◌*◌, ◌/◌, ◌^◌, ◌≤�
 use mathlib.Core.Path.{◌≡◌, refl, sym, ap, ◌∙◌}
 use mathlib.Core.List.{List}
 use mathlib.Core.Bool.{Bool, true, false, cond}
-use native.Mathlib.Nat.{lt_of_not-le, min-eq_left, min-eq_right}
+use native.Mathlib.Nat.{lt_of_not-le, pos_of_ne-zero, min-eq_left}
 use native.Mathlib.Omega.{arith}
 use lib.Count.{count_trailing_zeros, trailing_le}
 use lib.Bits.{bit_or, and_le_l, and_le_r, or_add_and, or_zero_l}
@@ -37,14 +37,6 @@ module _ (t : ℕ → Bool) (n i k : ℕ) (h : i ≤ passing t n) (l : i + k ≤
 both : (a b : ℕ) → bit_or a b ≡ 0 → (a ≡ 0) × (b ≡ 0)
 both a b e = let f = or_add_and a b in (omega (arith, and_le_l a b, and_le_r a b), omega (arith, and_le_l a b, and_le_r a b))
 
-none : (a : ℕ) → (0 < a → ⊥) → a ≡ 0
-none zero f = refl
-none (suc a) f = absurd (f (omega arith))
-
-positive : (a : ℕ) → (a ≡ 0 → ⊥) → 0 < a
-positive zero f = absurd (f refl)
-positive (suc a) f = omega arith
-
 pub hit-le : (a b : ℕ) → first_hit a b ≤ 16
 hit-le a b = by (ltb (count_trailing_zeros 64 a / 8) 8)
   where
@@ -56,13 +48,7 @@ hit-le a b = by (ltb (count_trailing_zeros 64 a / 8) 8)
 pub record Clean (s : List ℕ) (i : ℕ) : Type 0 where
   pub counted : i ≤ line_len s
 
-pub start : (s : List ℕ) → Clean s 0
-start s = record { counted = omega arith }
-
 module _ {s : List ℕ} {i : ℕ} (h : Clean s i) where
-  most : line_len s ≤ length s
-  most = passing-le (line_at s) (length s)
-
   -- the eight bytes from there on, and their hits
   module _ (known : (j : ℕ) → get_or s j 0 < 2 ^ 8) (l : i + 8 ≤ length s) (w : ℕ) (e : w ≡ hits_of 8 (word_of (byte_at s i) 8)) where
     places : count_trailing_zeros 64 w / 8 ≡ passing (λ j. line_at s (i + j)) 8
@@ -79,10 +65,6 @@ module _ {s : List ℕ} {i : ℕ} (h : Clean s i) where
     some z =
         let f = sym (no_hit (byte_at s i) 8 (λ j. known (i + j))) ∙ ap (λ x. eqb x 0) (sym e) ∙ ne_eqb w 0 (λ q. omega arith) in
         omega (arith, places, passing-le (λ j. line_at s (i + j)) 8, eqb-false (passing (λ j. line_at s (i + j)) 8) 8 f)
-
--- fewer than sixteen bytes are left
-pub ended : {s : List ℕ} (k : ℕ) → Clean s (16 * k) → length s / 16 ≤ k → length s / 16 * 16 ≡ line_sixteens s
-ended k h l = sym (min-eq_right (omega (arith, h.counted)))
 
 -- the pair of words after k pairs, and their hits
 module _ {s : List ℕ} (k : ℕ) (h : Clean s (16 * k)) (known : (j : ℕ) → get_or s j 0 < 2 ^ 8) (l : 16 * k + 16 ≤ length s) where
@@ -101,9 +83,10 @@ module _ {s : List ℕ} (k : ℕ) (h : Clean s (16 * k)) (known : (j : ℕ) → 
         by : (t : Bool) → ltb (count_trailing_zeros 64 a / 8) 8 ≡ t → 16 * k + cond t (count_trailing_zeros 64 a / 8) (8 + count_trailing_zeros 64 b / 8) ≡ line_len s
         by true m = here h known (omega arith) a e (ltb-true _ 8 m)
         by false m =
-            let p : a ≡ 0 = none a (λ q. let g = some h known (omega arith) a e q in omega (arith, ltb-false (count_trailing_zeros 64 a / 8) 8 m)) in
+            let n : a < 1 = lt_of_not-le (λ q. let g = some h known (omega arith) a e q in omega (arith, ltb-false (count_trailing_zeros 64 a / 8) 8 m)) in
+            let p : a ≡ 0 = omega arith in
             let c = upper p in
-            let q = here c known (omega arith) b f (some c known (omega arith) b f (positive b (λ r. z (rw (p, r) (or_zero_l 0))))) in
+            let q = here c known (omega arith) b f (some c known (omega arith) b f (pos_of_ne-zero (λ r. z (rw (p, r) (or_zero_l 0))))) in
             omega (arith, q)
 
     pub found : (bit_or a b ≡ 0 → ⊥) → 16 * k + first_hit a b ≡ line_sixteens s

@@ -1,5 +1,5 @@
-ghost use Rattle.std.specs.Prelude.{◌≡◌, ◌+◌, ◌≤◌, length};
-ghost use Rattle.line_scans.specs.Words.{byte_at, word_of, marked_in, hits_of, first_hit, line_sixteens};
+ghost use Rattle.std.specs.Prelude.{◌≡◌, ◌≤◌, length};
+ghost use Rattle.line_scans.specs.Words.{marked_in, hits_of, first_hit, line_sixteens};
 
 const SEVENS: u64 = 0x7F7F_7F7F_7F7F_7F7F;
 
@@ -8,23 +8,6 @@ const HIGHS: u64 = 0x8080_8080_8080_8080;
 const CRS: u64 = 0x0D0D_0D0D_0D0D_0D0D;
 
 const LFS: u64 = 0x0A0A_0A0A_0A0A_0A0A;
-
-// The eight bytes from i on, the first one lowest: the reads compile to one load.
-fn word_at(s: &[u8], i: usize) -> u64
-    requires { i + 8 ≤ length s.now }
-    ensures { result ≡ word_of (byte_at s.now i) 8 }
-{
-    u64::from_le_bytes([
-        s[i],
-        s[i + 1],
-        s[i + 2],
-        s[i + 3],
-        s[i + 4],
-        s[i + 5],
-        s[i + 6],
-        s[i + 7],
-    ])
-}
 
 // The high bit of every byte of x that is not 0. The sum stays within each byte, so that no carry runs into the next.
 #[tactic(auto, unfolding(crate::specs::Words::each))]
@@ -63,9 +46,11 @@ pub fn line_sixteens(s: &[u8]) -> usize
     ensures value { result ≡ line_sixteens s.now }
     ensures within { result ≤ length s.now }
 {
-    for k in 0..s.len() / 16 {
-        let low = hits(word_at(s, 16 * k));
-        let high = hits(word_at(s, 16 * k + 8));
+    let (words, _) = s.as_chunks::<8>();
+    let (pairs, _) = words.as_chunks::<2>();
+    for (k, [lower, upper]) in pairs.iter().enumerate() {
+        let low = hits(u64::from_le_bytes(*lower));
+        let high = hits(u64::from_le_bytes(*upper));
         if low | high != 0 {
             return 16 * k + first_hit(low, high);
         }

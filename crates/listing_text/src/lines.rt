@@ -14,7 +14,7 @@ use tokenizer_rows::said_row;
 const MAX_LISTED: usize = 65536;
 
 impl Text<'_> {
-    // A kind is a number; a refusal's, which is 256 more in a row, has an R before it.
+    // A kind is a number; a refusal's has an R before it, where its row has Said::REFUSED more.
     #[tactic(auto, using(crate::proofs::Placing::placed_cons, std::proofs::lemmas::Bool::Decides::nat_tests), unfolding(crate::specs::Listing::kind_in, crate::specs::Listing::kind_text))]
     fn put_kind(&mut self, number: usize)
         requires { self.old.len + 21 < 2 ^ 64 }
@@ -23,9 +23,9 @@ impl Text<'_> {
         ensures upper_bound { self.new.len ≤ self.old.len + 21 }
         ensures out { self.new.out.now ≡ placed (kind_in number) self.old.len self.old.out.now }
     {
-        if 256 <= number {
+        if Said::REFUSED <= number {
             self.put(b"R");
-            self.put_number(number - 256);
+            self.put_number(number - Said::REFUSED);
             return;
         }
         self.put_number(number);
@@ -68,7 +68,7 @@ pub fn listing(doc: &[u8], out: &mut [u8]) -> usize
     let mut row = [0usize; 7];
     loop {
         next(doc, &mut words, &mut row);
-        if row[0] == 0 {
+        if row[0] == Said::END {
             return text.len;
         }
         text.put_row(&row);

@@ -5,14 +5,16 @@ use Prim.Native.Nat.{ℕ, ◌<◌}
 use mathlib.Core.Path.{◌≡◌, refl}
 use mathlib.Core.List.{List, [], ◌∷◌}
 use native.Mathlib.Numerals.{add-one}
-use lib.Dec.{eqb}
+use lib.Dec.{eqb, ltb}
 use lib.ListN.{length}
 use Rattle.std.proofs.Common.{Option, None, Some, Err, Continue, Break}
-use borrow.Author.Tests.{lt-ltb}
+use borrow.Author.Tests.{lt-ltb, ltb-true}
+use Rattle.text.specs.Numbers.{error}
 use Rattle.text.specs.declared.bytes.Part.{Part}
 use Rattle.text.specs.declared.refusals.Refusal.TheVariants.{TooLong}
 use Rattle.text.specs.declared.refusals.SyntaxError.{SyntaxError}
 use Rattle.text.proofs.Cases.{by_bool}
+use Rattle.tokenizer.specs.Limit.{within_limit}
 use Rattle.tokenizer.specs.declared.token.Token.{Token}
 use Rattle.tokenizer.specs.declared.token.Token.TheVariants as token
 use Rattle.parser.specs.Lists.{top_entries, parse}
@@ -26,6 +28,13 @@ use Rattle.look_up.specs.declared.search.Search.{Search}
 pub look-up-over : (d w : List ℕ) → 16777216 < length d → look_up d w ≡ Err (record { refusal = TooLong; line = 0 })
 unfolding look_up parse refusal_in top_entries keys_of entries_of first_named
 look-up-over d w h = rw (lt-ltb 16777216 (length d) h)
+
+-- what the test of the limit refuses
+pub limit_over : (d w : List ℕ) {e : SyntaxError} → within_limit d ≡ Err e → Err e ≡ look_up d w
+limit_over d w {e} h =
+    by_bool (ltb 16777216 (length d))
+    (λ l. let k = rw l at h in let m : e ≡ error TooLong 0 = cc in rw (m, look-up-over d w (ltb-true 16777216 (length d) l)))
+    (λ l. let k = rw l at h in absurd cc)
 
 abbrev search : ℕ → ℕ → Option Hit → Search
 search i o h = record { indents = i; outdents = o; hit = h }

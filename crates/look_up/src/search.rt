@@ -6,9 +6,9 @@ ghost use Rattle.look_up.specs.Search.{HasRoom, found_at, on_key, on_token, on_r
 use batches::next;
 use parser_words::fresh_parser;
 use std::ops::ControlFlow;
-use text::{Part, Refusal, SyntaxError};
+use text::{Part, SyntaxError};
 use token_text::is_text;
-use tokenizer::{State, Token};
+use tokenizer::{Token, within_limit};
 use tokenizer_rows::said_in;
 
 // What the look-up finds: the key's line, and the entry's part of the document.
@@ -117,13 +117,11 @@ impl Search {
 // a quote, to the next top-level key's, or to the document's end. A key that unescaping refuses has no name, and is
 // passed over. The parser's refusal, met before the entry's end, is the answer; 12 over the limit. A loop, since each
 // step writes its row and the state into lent words: an iterator would have to hold both.
+#[tactic(auto, using(crate::proofs::Searched::limit_over))]
 pub fn look_up(doc: &[u8], wanted: &[u8]) -> Outcome
     ensures { result ≡ look_up doc.now wanted.now }
 {
-    if State::MAX_DOCUMENT < doc.len() {
-        let refusal = Refusal::TooLong;
-        return Err(SyntaxError { refusal, line: 0 });
-    }
+    within_limit(doc)?;
     let mut words = [0usize; 278];
     fresh_parser(&mut words);
     let mut row = [0usize; 7];

@@ -87,7 +87,7 @@ keeping a k = record {
   kept = k;
   awaited = a;
   refused = false;
-  sections = no_sort ∷ record { sort = Map; line = 2 } ∷ replicate 63 no_sort;
+  sections = no_sort ∷ record { sort = Some Map; line = 2 } ∷ replicate 63 no_sort;
   count = 2;
 }
 
@@ -102,7 +102,7 @@ unfolding stepped
 closes = refl
 
 -- a key leaves it in the record
-fixes : get_or (stepped awaited.Nothing (token.MapKey 4 (part 0 0))).state.sections 1 no_sort ≡ record { sort = Map; line = 2 }
+fixes : get_or (stepped awaited.Nothing (token.MapKey 4 (part 0 0))).state.sections 1 no_sort ≡ record { sort = Some Map; line = 2 }
 unfolding stepped
 fixes = refl
 

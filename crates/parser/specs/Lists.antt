@@ -2,6 +2,7 @@
 -- over the size limit it is the one refusal 12. Beside it, the same as a function over the tokenizer's list, which is
 -- intermediate: parser_claims, proofs/Claimed, shows that it is this list.
 use Rattle.std.specs.Prelude.{Option, Some, None, Ok, Err, ℕ, suc, ◌≤◌, ◌<◌, ◌≡◌, List, [], ◌∷◌, ◌++◌, Bool, true, false, cond, eqb, ltb, length}
+use Rattle.std.specs.Result.{is_ok}
 use Rattle.tokenizer.specs.Token.{Answer}
 use Rattle.text.specs.Numbers.{error, max_document}
 use Rattle.text.specs.declared.refusals.Refusal.TheVariants.{TooLong, UnfitState}
@@ -11,7 +12,7 @@ use Rattle.tokenizer.specs.declared.token.Token.TheVariants as token
 use Rattle.parser_rules.specs.Ruling.{ruling_of}
 use Rattle.parser.specs.Step.{unsorted, no_sort, step_of, fresh}
 use Rattle.parser_rules.specs.declared.ruling.Sort.{Sort}
-use Rattle.parser_rules.specs.declared.ruling.Sort.TheVariants.{Unset, Map, List as Listed}
+use Rattle.parser_rules.specs.declared.ruling.Sort.TheVariants.{Map, List as Listed}
 use Rattle.parser_rules.specs.declared.ruling.Awaited.{Awaited}
 use Rattle.parser_rules.specs.declared.ruling.Awaited.TheVariants as awaited
 use Rattle.parser_rules.specs.declared.ruling.Kept.{Kept}
@@ -47,7 +48,7 @@ innermost (s ∷ l) = Some s
 abbrev pub stack_after : Change → List Section → List Section
 stack_after Keep l = l
 stack_after (Fix s) [] = []
-stack_after (Fix s) (r ∷ l) = record { sort = s; line = r.line } ∷ l
+stack_after (Fix s) (r ∷ l) = record { sort = Some s; line = r.line } ∷ l
 stack_after (Open o) l = unsorted o ∷ l
 stack_after Close [] = []
 stack_after Close (r ∷ l) = l
@@ -66,7 +67,7 @@ stand_after s v = record { awaited = v.awaited; sections = stack_after v.change 
 
 -- nothing kept: the answer, and on unless refused
 abbrev pub fed_once : Stand → Ruling → Fed
-fed_once s (Says v) = record { says = v.answer ∷ []; next = stand_after s v; goes_on = cond v.refused false true }
+fed_once s (Says v) = record { says = Some v.answer ∷ []; next = stand_after s v; goes_on = is_ok v.answer }
 fed_once s End = record { says = []; next = s; goes_on = true }
 fed_once s Unfit = unfit_fed s
 
@@ -79,8 +80,8 @@ ruled s c = ruling_of s.awaited (innermost s.sections) false c
 -- what was kept comes again
 abbrev pub fed_twice : Stand → Kept → Verdict → Fed
 fed_twice s kept.Nothing v = fed_once s (Says v)
-fed_twice s kept.End v = before v.answer (fed_once (stand_after s v) (ruled (stand_after s v) None))
-fed_twice s (kept.Token t) v = before v.answer (fed_once (stand_after s v) (ruled (stand_after s v) (Some (Ok t))))
+fed_twice s kept.End v = before (Some v.answer) (fed_once (stand_after s v) (ruled (stand_after s v) None))
+fed_twice s (kept.Token t) v = before (Some v.answer) (fed_once (stand_after s v) (ruled (stand_after s v) (Some (Ok t))))
 
 abbrev pub fed_by : Stand → Ruling → Fed
 fed_by s (Says v) = fed_twice s v.kept v
@@ -129,22 +130,22 @@ top_entries i o (Some (Ok (token.MultilineValue m q p)) ∷ l) = top_entries i o
 top_entries i o (Some (Ok (token.NoValue m)) ∷ l) = top_entries i o l
 
 -- the sort that a key or an item is of
-abbrev pub entry_sort : Token → Sort
-entry_sort (token.ListItem m) = Listed
-entry_sort (token.MapKey m p) = Map
-entry_sort (token.Newline m) = Unset
-entry_sort (token.Comment m p) = Unset
-entry_sort (token.Indent m) = Unset
-entry_sort (token.Outdent m o) = Unset
-entry_sort (token.Value m p) = Unset
-entry_sort (token.MultilineHint m p) = Unset
-entry_sort (token.MultilineValue m q p) = Unset
-entry_sort (token.NoValue m) = Unset
+abbrev pub entry_sort : Token → Option Sort
+entry_sort (token.ListItem m) = Some Listed
+entry_sort (token.MapKey m p) = Some Map
+entry_sort (token.Newline m) = None
+entry_sort (token.Comment m p) = None
+entry_sort (token.Indent m) = None
+entry_sort (token.Outdent m o) = None
+entry_sort (token.Value m p) = None
+entry_sort (token.MultilineHint m p) = None
+entry_sort (token.MultilineValue m q p) = None
+entry_sort (token.NoValue m) = None
 
--- the sort of the first top-level entry, which is that of all of an accepted document; unset where there is none
-abbrev pub sort_of : List Token → Sort
-sort_of [] = Unset
+-- the sort of the first top-level entry, which is that of all of an accepted document; none where there is no entry
+abbrev pub sort_of : List Token → Option Sort
+sort_of [] = None
 sort_of (t ∷ l) = entry_sort t
 
-abbrev pub top_sort : List Answer → Sort
+abbrev pub top_sort : List Answer → Option Sort
 top_sort l = sort_of (top_entries 0 0 l)

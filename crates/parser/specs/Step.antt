@@ -1,6 +1,7 @@
 -- Law: document 01, 'Parser', and document 02, request 5, the line that a section's record keeps: the state, and the
 -- step over it. 12, then 15, then End once refused, then the rules.
 use Rattle.std.specs.Prelude.{Option, Some, None, Ok, Err, ℕ, zero, suc, ◌+◌, ◌-◌, ◌≤◌, ◌<◌, List, Bool, false, cond, leb, ltb, length, get_or, set, replicate}
+use Rattle.std.specs.Result.{is_err}
 use Rattle.tokenizer.specs.Token.{Answer as Came}
 use Rattle.text.specs.Numbers.{error, max_document, max_open}
 use Rattle.text.specs.declared.refusals.Refusal.{Refusal}
@@ -8,7 +9,6 @@ use Rattle.text.specs.declared.refusals.Refusal.TheVariants.{TooLong, UnfitState
 use Rattle.tokenizer.specs.Step.{fit, step_of as token_step, fresh as fresh_tokenizer}
 use Rattle.tokenizer.specs.declared.state.State.{State as Tokenizer}
 use Rattle.parser_rules.specs.Ruling.{ruling_of}
-use Rattle.parser_rules.specs.declared.ruling.Sort.TheVariants.{Unset}
 use Rattle.parser_rules.specs.declared.ruling.Awaited.TheVariants as awaited
 use Rattle.parser_rules.specs.declared.ruling.Kept.{Kept}
 use Rattle.parser_rules.specs.declared.ruling.Kept.TheVariants as kept
@@ -27,7 +27,7 @@ max_sections = 1 + max_open
 
 -- a section of no sort yet, which the key or item of line l opens
 abbrev pub unsorted : ℕ → Section
-unsorted l = record { sort = Unset; line = l }
+unsorted l = record { sort = None; line = l }
 
 -- the top level's: no line opens it
 abbrev pub no_sort : Section
@@ -44,7 +44,7 @@ full_of n = leb max_sections n
 
 unfoldable pub sections_after : Change → List Section → ℕ → List Section
 sections_after Keep l n = l
-sections_after (Fix s) l n = set l (n - 1) (record { sort = s; line = (get_or l (n - 1) no_sort).line })
+sections_after (Fix s) l n = set l (n - 1) (record { sort = Some s; line = (get_or l (n - 1) no_sort).line })
 sections_after (Open o) l n = set l n (unsorted o)
 sections_after Close l n = l
 
@@ -67,7 +67,7 @@ after_verdict s t v = record {
   tokenizer = t;
   kept = v.kept;
   awaited = v.awaited;
-  refused = v.refused;
+  refused = is_err v.answer;
   sections = sections_after v.change s.sections s.count;
   count = count_after v.change s.count;
 }
@@ -77,7 +77,7 @@ abbrev pub refusal : Refusal → State → Step State
 refusal r s = record { answer = Some (Err (error r 0)); state = s }
 
 abbrev pub on_ruling : Ruling → State → Tokenizer → Step State
-on_ruling (Says v) s t = record { answer = v.answer; state = after_verdict s t v }
+on_ruling (Says v) s t = record { answer = Some v.answer; state = after_verdict s t v }
 on_ruling End s t = record { answer = None; state = s }
 on_ruling Unfit s t = refusal UnfitState s
 

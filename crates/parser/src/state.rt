@@ -11,7 +11,7 @@ ghost use Rattle.parser.specs.Step.{
   fresh,
 };
 
-use parser_rules::{Awaited, Change, Kept, Ruling, Section, Sort, Verdict, rule};
+use parser_rules::{Awaited, Change, Kept, Ruling, Section, Verdict, rule};
 use text::Refusal;
 use tokenizer::{Answer, Step};
 
@@ -38,7 +38,7 @@ impl State {
             awaited: Awaited::Nothing,
             refused: false,
             sections: [Section {
-                sort: Sort::Unset,
+                sort: None,
                 line: 0,
             }; 65],
             count: 1,
@@ -55,10 +55,9 @@ impl State {
         let mut count = self.count;
         match v.change {
             Change::Keep => {}
-            Change::Fix(sort) => sections[count - 1].sort = sort,
+            Change::Fix(sort) => sections[count - 1].sort = Some(sort),
             Change::Open(line) => {
-                let sort = Sort::Unset;
-                sections[count] = Section { sort, line };
+                sections[count] = Section { sort: None, line };
                 count += 1;
             }
             Change::Close => count -= 1,
@@ -67,7 +66,7 @@ impl State {
             tokenizer,
             kept: v.kept,
             awaited: v.awaited,
-            refused: v.refused,
+            refused: v.answer.is_err(),
             sections,
             count,
         }
@@ -92,14 +91,11 @@ impl State {
     {
         match rule(self.awaited, self.innermost(), 65 <= self.count, came) {
             Ruling::Says(v) => {
-                let answer = v.answer;
+                let answer = Some(v.answer);
                 let state = self.after(tokenizer, v);
                 Step { answer, state }
             }
-            Ruling::End => Step {
-                answer: None,
-                state: self,
-            },
+            Ruling::End => Step::ended(self),
             Ruling::Unfit => Step::refused(Refusal::UnfitState, self),
         }
     }
@@ -111,10 +107,7 @@ impl State {
         let state = self.tokenizer;
         match self.kept {
             Kept::Nothing => state.step(doc),
-            Kept::End => Step {
-                answer: None,
-                state,
-            },
+            Kept::End => Step::ended(state),
             Kept::Token(t) => Step {
                 answer: Some(Ok(t)),
                 state,
@@ -143,10 +136,7 @@ impl State {
             return Step::refused(Refusal::UnfitState, self);
         }
         if self.refused {
-            return Step {
-                answer: None,
-                state: self,
-            };
+            return Step::ended(self);
         }
         self.step_kept(doc)
     }

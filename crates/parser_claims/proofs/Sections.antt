@@ -1,5 +1,6 @@
 -- The parser's record of sections, an array and a count, shows a list of sections, the innermost first: it gives the
 -- same innermost section, and a change to it shows the changed list as long as that has at most 65.
+use Rattle.std.specs.Prelude.{Some}
 use Prim.Native.Nat.{ℕ, suc, ◌-◌, ◌≤◌, ◌<◌}
 use mathlib.Core.Path.{◌≡◌, refl, ap, ◌∙◌}
 use mathlib.Core.List.{List, [], ◌∷◌}
@@ -49,9 +50,9 @@ mirrors-after Keep m h = m
 mirrors-after {a} (Fix s) m h = record { size = length-set a _ _ ∙ m.size; shows = fixed m.shows h }
   where
     fixed : {n : ℕ} {l : List Section} → Shows a n l → length (stack_after (Fix s) l) ≤ 65
-        → Shows (set a (n - 1) (record { sort = s; line = (get_or a (n - 1) no_sort).line })) n (stack_after (Fix s) l)
+        → Shows (set a (n - 1) (record { sort = Some s; line = (get_or a (n - 1) no_sort).line })) n (stack_after (Fix s) l)
     fixed none h = none
-    fixed (one e r) h = rw (sub-one, e) (set-one (record { sort = s; line = _ }) (omega (arith, m.size, shows-count r)) r)
+    fixed (one e r) h = rw (sub-one, e) (set-one (record { sort = Some s; line = _ }) (omega (arith, m.size, shows-count r)) r)
 mirrors-after {a} {n} (Open o) m h = record {
   size = length-set a n (unsorted o) ∙ m.size;
   shows = rw add-one (set-one (unsorted o) (omega (arith, shows-count m.shows)) m.shows);

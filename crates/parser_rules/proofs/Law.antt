@@ -14,7 +14,8 @@ use Rattle.parser_rules.specs.declared.ruling.Awaited.{Awaited}
 use Rattle.parser_rules.specs.declared.ruling.Awaited.TheVariants as awaited
 use Rattle.parser_rules.specs.declared.ruling.Sort.{Sort}
 use Rattle.parser_rules.specs.declared.ruling.Section.{Section}
-use Rattle.parser_rules.specs.Judging.{sort_number, opened_line, awaited_number, outdent_by, item_by, key_by, settled_by, after_entry_by, after_hint_by, judged_by, made_by, ruling_by}
+use Rattle.parser_rules.specs.Numbers.{awaited_number}
+use Rattle.parser_rules.specs.Judging.{sort_number, opened_line, outdent_by, item_by, key_by, settled_by, after_entry_by, after_hint_by, judged_by, made_by, ruling_by}
 
 past : (n : ℕ) → leb 256 (256 + n) ≡ true
 past n = le-leb 256 (256 + n) (omega arith)
@@ -24,14 +25,14 @@ abbrev Stands : Awaited → Option Section → Bool → Came → Type 0
 Stands a i full c = ruling_of a i full c ≡ ruling_by (judged_by (values_of c).number (awaited_number a) (sort_number i) full) a (opened_line i) c
 
 -- a section by its sort
-pub by_sort : (P : Section → Type 0) → ((o : ℕ) → P (record { sort = sort.Unset; line = o })) → ((o : ℕ) → P (record { sort = sort.Map; line = o }))
-    → ((o : ℕ) → P (record { sort = sort.List; line = o })) → (s : Section) → P s
+pub by_sort : (P : Section → Type 0) → ((o : ℕ) → P (record { sort = None; line = o })) → ((o : ℕ) → P (record { sort = Some sort.Map; line = o }))
+    → ((o : ℕ) → P (record { sort = Some sort.List; line = o })) → (s : Section) → P s
 by_sort P u m l s = on s.sort
   where
-    on : (x : Sort) → P (record { sort = x; line = s.line })
-    on sort.Unset = u s.line
-    on sort.Map = m s.line
-    on sort.List = l s.line
+    on : (x : Option Sort) → P (record { sort = x; line = s.line })
+    on None = u s.line
+    on (Some sort.Map) = m s.line
+    on (Some sort.List) = l s.line
 
 at_rest : (i : Option Section) (full : Bool) (c : Came) → Stands awaited.Nothing i full c
 unfolding ruling_of on_end on_token settled after_entry after_hint on_entry on_outdent on_indent values_of token_values line_of judged_by settled_by after_entry_by after_hint_by outdent_by item_by key_by made_by

@@ -6,12 +6,12 @@ use Rattle.text.specs.declared.refusals.Refusal.TheVariants.{MissingMultiline, U
 use Rattle.tokenizer.specs.declared.token.Token.TheVariants as token
 use Rattle.tokenizer.specs.declared.token.Token.{Token}
 use Rattle.parser_rules.specs.Ruling.{gives, refuses, no_value}
+use Rattle.parser_rules.specs.Numbers.{number_of_sort, awaited_line}
 use Rattle.parser_rules.specs.declared.ruling.Sort.TheVariants as sort
 use Rattle.parser_rules.specs.declared.ruling.Awaited.{Awaited}
 use Rattle.parser_rules.specs.declared.ruling.Awaited.TheVariants as awaited
 use Rattle.parser_rules.specs.declared.ruling.Kept.{Kept}
 use Rattle.parser_rules.specs.declared.ruling.Kept.TheVariants as kept
-use Rattle.parser_rules.specs.declared.ruling.Sort.{Sort}
 use Rattle.parser_rules.specs.declared.ruling.Section.{Section}
 use Rattle.parser_rules.specs.declared.ruling.Change.TheVariants as change
 use Rattle.parser_rules.specs.declared.ruling.Ruling.{Ruling}
@@ -19,12 +19,7 @@ use Rattle.parser_rules.specs.declared.ruling.Ruling.TheVariants as ruling
 use Rattle.parser_rules.specs.declared.judging.Judged.{Judged}
 use Rattle.parser_rules.specs.declared.judging.Judged.TheVariants.{GivesOn, NoValue, Opens, Closes, Map, List as Listed, Hint, Value, Passes, Refuses, RefusesEntry, End, Unfit}
 
--- by the innermost section's sort: 0 unset, 1 map, 2 list, 3 missing
-abbrev pub number_of_sort : Sort → ℕ
-number_of_sort sort.Unset = 0
-number_of_sort sort.Map = 1
-number_of_sort sort.List = 2
-
+-- of the innermost section; 3 where there is none
 abbrev pub sort_number : Option Section → ℕ
 sort_number None = 3
 sort_number (Some s) = number_of_sort s.sort
@@ -33,16 +28,6 @@ sort_number (Some s) = number_of_sort s.sort
 abbrev pub opened_line : Option Section → ℕ
 opened_line None = 0
 opened_line (Some s) = s.line
-
-abbrev pub awaited_number : Awaited → ℕ
-awaited_number awaited.Nothing = 0
-awaited_number (awaited.Value l) = 1
-awaited_number (awaited.Multiline l) = 2
-
-abbrev pub awaited_line : Awaited → ℕ
-awaited_line awaited.Nothing = 0
-awaited_line (awaited.Value l) = l
-awaited_line (awaited.Multiline l) = l
 
 unfoldable pub outdent_by : ℕ → Judged
 outdent_by s = cond (eqb s 3) Unfit Closes

@@ -1,2 +1,3 @@
 pub mod Ruling
+pub mod Numbers
 pub mod Judging

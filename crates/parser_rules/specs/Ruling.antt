@@ -19,7 +19,7 @@ use Rattle.tokenizer.specs.declared.token.Token.TheVariants.{
   NoValue,
 }
 use Rattle.parser_rules.specs.declared.ruling.Sort.{Sort}
-use Rattle.parser_rules.specs.declared.ruling.Sort.TheVariants.{Unset, Map, List}
+use Rattle.parser_rules.specs.declared.ruling.Sort.TheVariants.{Map, List}
 use Rattle.parser_rules.specs.declared.ruling.Awaited.{Awaited}
 use Rattle.parser_rules.specs.declared.ruling.Awaited.TheVariants as awaited
 use Rattle.parser_rules.specs.declared.ruling.Kept.{Kept}
@@ -32,25 +32,23 @@ use Rattle.parser_rules.specs.declared.ruling.Ruling.TheVariants.{Says, End, Unf
 
 -- the token is given on
 abbrev pub gives : Token → Awaited → Change → Ruling
-gives t a c = Says (record { answer = Some (Ok t); awaited = a; change = c; kept = kept.Nothing; refused = false })
+gives t a c = Says (record { answer = Ok t; awaited = a; change = c; kept = kept.Nothing })
 
 -- a refusal, after which calls give End; the sections stay, and nothing is kept
 abbrev pub refuses : Refusal → ℕ → Awaited → Ruling
-refuses r l a = Says (record { answer = Some (Err (error r l)); awaited = a; change = Keep; kept = kept.Nothing; refused = true })
+refuses r l a = Says (record { answer = Err (error r l); awaited = a; change = Keep; kept = kept.Nothing })
 
 -- NoValue with the key's or item's line; what came is kept for the next call
 abbrev pub no_value : ℕ → Kept → Ruling
-no_value l k = Says (record { answer = Some (Ok (NoValue l)); awaited = awaited.Nothing; change = Keep; kept = k; refused = false })
+no_value l k = Says (record { answer = Ok (NoValue l); awaited = awaited.Nothing; change = Keep; kept = k })
 
 -- whether a section of the first sort has no room for an entry of the second: the first key or item fixes it
-abbrev pub clashes : Sort → Sort → Bool
-clashes Unset s = false
-clashes Map Unset = false
-clashes Map Map = false
-clashes Map List = true
-clashes List Unset = false
-clashes List Map = true
-clashes List List = false
+abbrev pub clashes : Option Sort → Sort → Bool
+clashes None s = false
+clashes (Some Map) Map = false
+clashes (Some Map) List = true
+clashes (Some List) Map = true
+clashes (Some List) List = false
 
 -- the first key or item fixes its section's sort, and the other is the refusal r
 unfoldable pub on_entry : Token → ℕ → Sort → Refusal → Option Section → Ruling

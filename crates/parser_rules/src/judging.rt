@@ -4,11 +4,13 @@
 ghost use Rattle.std.specs.Prelude.{◌≡◌};
 ghost use Rattle.parser_rules.specs.Judging.{settled_by, after_entry_by, after_hint_by, judged_by};
 
+use crate::{awaited, sort};
 use text::Refusal;
+use tokenizer::{Said, kind};
 
 // What is made of an answer: it is given on; NoValue, and it is kept; a section opens or closes; it fixes a map or a
-// list; it is a hint; it is the value; it is a refusal and given on; it is refused by a number, on its own line or, 4,
-// on the entry's; End; unfit.
+// list; it is a hint; it is the value; it is a refusal and given on, which only the step in words asks; it is refused,
+// on its own line or, by MissingMultiline, on the entry's; End; unfit.
 #[derive(Clone, Copy)]
 pub enum Judged {
     GivesOn,
@@ -26,33 +28,32 @@ pub enum Judged {
     Unfit,
 }
 
-// Nothing is awaited: sort is the innermost section's, 0 unset, 1 map, 2 list, 3 where there is none.
+// Nothing is awaited: `innermost` is the sort of the innermost section.
 #[tactic(auto, unfolding(crate::specs::Judging::settled_by, crate::specs::Judging::outdent_by, crate::specs::Judging::item_by, crate::specs::Judging::key_by))]
-fn settle(number: usize, sort: usize) -> Judged
-    ensures { result ≡ settled_by number sort }
+fn settle(number: usize, innermost: usize) -> Judged
+    ensures { result ≡ settled_by number innermost }
 {
     match number {
-        0 => Judged::End,
-        1 => Judged::GivesOn,
-        2 => Judged::GivesOn,
-        3 => Judged::Refuses(Refusal::UnexpectedIndent),
-        4 => {
-            match sort {
-                3 => Judged::Unfit,
+        Said::END => Judged::End,
+        kind::NEWLINE | kind::COMMENT => Judged::GivesOn,
+        kind::INDENT => Judged::Refuses(Refusal::UnexpectedIndent),
+        kind::OUTDENT => {
+            match innermost {
+                sort::MISSING => Judged::Unfit,
                 _ => Judged::Closes,
             }
         }
-        5 => {
-            match sort {
-                1 => Judged::Refuses(Refusal::UnexpectedItem),
-                3 => Judged::Unfit,
+        kind::LIST_ITEM => {
+            match innermost {
+                sort::MAP => Judged::Refuses(Refusal::UnexpectedItem),
+                sort::MISSING => Judged::Unfit,
                 _ => Judged::List,
             }
         }
-        6 => {
-            match sort {
-                2 => Judged::Refuses(Refusal::UnexpectedKey),
-                3 => Judged::Unfit,
+        kind::MAP_KEY => {
+            match innermost {
+                sort::LIST => Judged::Refuses(Refusal::UnexpectedKey),
+                sort::MISSING => Judged::Unfit,
                 _ => Judged::Map,
             }
         }
@@ -66,11 +67,10 @@ fn after_entry(number: usize, full: bool) -> Judged
     ensures { result ≡ after_entry_by number full }
 {
     match number {
-        1 => Judged::GivesOn,
-        2 => Judged::GivesOn,
-        3 => { if full { Judged::Unfit } else { Judged::Opens } }
-        7 => Judged::Value,
-        8 => Judged::Hint,
+        kind::NEWLINE | kind::COMMENT => Judged::GivesOn,
+        kind::INDENT => { if full { Judged::Unfit } else { Judged::Opens } }
+        kind::VALUE => Judged::Value,
+        kind::MULTILINE_HINT => Judged::Hint,
         _ => Judged::NoValue,
     }
 }
@@ -81,24 +81,23 @@ fn after_hint(number: usize) -> Judged
     ensures { result ≡ after_hint_by number }
 {
     match number {
-        1 => Judged::GivesOn,
-        2 => Judged::GivesOn,
-        9 => Judged::Value,
+        kind::NEWLINE | kind::COMMENT => Judged::GivesOn,
+        kind::MULTILINE_VALUE => Judged::Value,
         _ => Judged::RefusesEntry,
     }
 }
 
-// What is made of an answer of that number: awaited is 1 for a value, 2 for a multiline value.
+// What is made of an answer of that number, by the numbers of what is awaited and of the innermost section's sort.
 #[tactic(auto, unfolding(crate::specs::Judging::judged_by))]
-pub fn judge(number: usize, awaited: usize, sort: usize, full: bool) -> Judged
-    ensures { result ≡ judged_by number awaited sort full }
+pub fn judge(number: usize, awaits: usize, innermost: usize, full: bool) -> Judged
+    ensures { result ≡ judged_by number awaits innermost full }
 {
-    if 256 <= number {
+    if Said::REFUSED <= number {
         return Judged::Passes;
     }
-    match awaited {
-        1 => after_entry(number, full),
-        2 => after_hint(number),
-        _ => settle(number, sort),
+    match awaits {
+        awaited::VALUE => after_entry(number, full),
+        awaited::MULTILINE => after_hint(number),
+        _ => settle(number, innermost),
     }
 }

@@ -2,7 +2,9 @@
 #![tactic(auto)]
 
 mod judging;
+mod numbers;
 mod ruling;
 
 pub use judging::{Judged, judge};
+pub use numbers::{awaited, sort};
 pub use ruling::{Awaited, Change, Kept, Ruling, Section, Sort, Verdict, rule};

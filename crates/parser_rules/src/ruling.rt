@@ -1,21 +1,20 @@
 // What the parser makes of one answer of the tokenizer: the ruling knows neither the document nor the record of
 // sections. It is judged by numbers; here the judgement becomes the ruling.
 ghost use Rattle.std.specs.Prelude.{◌≡◌};
-ghost use Rattle.tokenizer.specs.Token.{token_values};
 ghost use Rattle.tokenizer.specs.declared.token.Token.TheVariants.{Outdent};
 ghost use Rattle.parser_rules.specs.declared.ruling.Awaited.TheVariants.{Nothing};
 ghost use Rattle.parser_rules.specs.declared.ruling.Change.TheVariants.{Close};
 ghost use Rattle.parser_rules.specs.Ruling.{gives, refuses, no_value, ruling_of};
-ghost use Rattle.parser_rules.specs.Judging.{sort_number, opened_line, awaited_number, awaited_line, made_by};
+ghost use Rattle.parser_rules.specs.Judging.{sort_number, opened_line, made_by};
 
 use crate::judging::{Judged, judge};
+use crate::sort;
 use text::{Refusal, SyntaxError};
-use tokenizer::{Answer, Token};
+use tokenizer::{Answer, Said, Token};
 
-// The sort of a section, fixed by its first key or item.
+// The sort of a section: whether it holds keys or items.
 #[derive(Clone, Copy)]
 pub enum Sort {
-    Unset,
     Map,
     List,
 }
@@ -38,10 +37,11 @@ pub enum Kept {
     Token(Token),
 }
 
-// An open section: its sort, and the line of the key or item that opened it. The top level has line 0.
+// An open section: its sort, which its first key or item fixes, and the line of the key or item that opened it. The
+// top level has line 0.
 #[derive(Clone, Copy)]
 pub struct Section {
-    pub sort: Sort,
+    pub sort: Option<Sort>,
     pub line: usize,
 }
 
@@ -58,15 +58,14 @@ pub enum Change {
 // What is said, and what it leaves.
 #[derive(Clone, Copy)]
 pub struct Verdict {
-    pub answer: Answer,
+    pub answer: Result<Token, SyntaxError>,
     pub awaited: Awaited,
     pub change: Change,
     pub kept: Kept,
-    pub refused: bool,
 }
 
-// End and an unfit state, 15, change nothing: they leave no verdict, and neither is a failure, so that this is no
-// Result.
+// End and an unfit state, 15, change nothing: they leave no verdict. As a Result of an Option this would need an error
+// type of one value.
 #[derive(Clone, Copy)]
 pub enum Ruling {
     Says(Verdict),
@@ -79,11 +78,10 @@ fn gives(t: Token, awaited: Awaited, change: Change) -> Ruling
     ensures { result ≡ gives t awaited change }
 {
     Ruling::Says(Verdict {
-        answer: Some(Ok(t)),
+        answer: Ok(t),
         awaited,
         change,
         kept: Kept::Nothing,
-        refused: false,
     })
 }
 
@@ -103,11 +101,10 @@ fn refuse(refusal: Refusal, line: usize, awaited: Awaited) -> Ruling
     ensures { result ≡ refuses refusal line awaited }
 {
     Ruling::Says(Verdict {
-        answer: Some(Err(SyntaxError { refusal, line })),
+        answer: Err(SyntaxError { refusal, line }),
         awaited,
         change: Change::Keep,
         kept: Kept::Nothing,
-        refused: true,
     })
 }
 
@@ -116,74 +113,23 @@ fn no_value(line: usize, kept: Kept) -> Ruling
     ensures { result ≡ no_value line kept }
 {
     Ruling::Says(Verdict {
-        answer: Some(Ok(Token::NoValue(line))),
+        answer: Ok(Token::NoValue(line)),
         awaited: Awaited::Nothing,
         change: Change::Keep,
         kept,
-        refused: false,
     })
 }
 
-// A token's kind.
-#[tactic(auto, unfolding(tokenizer::specs::Token::token_values))]
-fn kind(t: Token) -> usize
-    ensures { result ≡ (token_values t).number }
-{
-    match t {
-        Token::Newline(_) => 1,
-        Token::Comment(_, _) => 2,
-        Token::Indent(_) => 3,
-        Token::Outdent(_, _) => 4,
-        Token::ListItem(_) => 5,
-        Token::MapKey(_, _) => 6,
-        Token::Value(_, _) => 7,
-        Token::MultilineHint(_, _) => 8,
-        Token::MultilineValue(_, _, _) => 9,
-        Token::NoValue(_) => 10,
-    }
-}
-
-// For `judge`, which goes by numbers.
 fn sort_number(innermost: Option<Section>) -> usize
     ensures { result ≡ sort_number innermost }
 {
-    let Some(section) = innermost else {
-        return 3;
-    };
-    match section.sort {
-        Sort::Unset => 0,
-        Sort::Map => 1,
-        Sort::List => 2,
-    }
+    innermost.map_or(sort::MISSING, |section| section.sort_number())
 }
 
 fn opened_line(innermost: Option<Section>) -> usize
     ensures { result ≡ opened_line innermost }
 {
-    match innermost {
-        None => 0,
-        Some(section) => section.line,
-    }
-}
-
-fn awaited_number(awaited: Awaited) -> usize
-    ensures { result ≡ awaited_number awaited }
-{
-    match awaited {
-        Awaited::Nothing => 0,
-        Awaited::Value(_) => 1,
-        Awaited::Multiline(_) => 2,
-    }
-}
-
-fn awaited_line(awaited: Awaited) -> usize
-    ensures { result ≡ awaited_line awaited }
-{
-    match awaited {
-        Awaited::Nothing => 0,
-        Awaited::Value(line) => line,
-        Awaited::Multiline(line) => line,
-    }
+    innermost.map_or(0, |section| section.line)
 }
 
 // The ruling on a token, and on what would be kept of it; opened is the innermost section's line.
@@ -192,7 +138,7 @@ fn made(v: Judged, awaited: Awaited, opened: usize, t: Token, kept: Kept) -> Rul
     ensures { result ≡ made_by v awaited opened t kept }
 {
     let line = t.line_number();
-    let entry = awaited_line(awaited);
+    let entry = awaited.line();
     match v {
         Judged::GivesOn => gives(t, awaited, Change::Keep),
         Judged::NoValue => no_value(entry, kept),
@@ -214,16 +160,16 @@ fn made(v: Judged, awaited: Awaited, opened: usize, t: Token, kept: Kept) -> Rul
 pub fn rule(awaited: Awaited, innermost: Option<Section>, full: bool, came: Answer) -> Ruling
     ensures { result ≡ ruling_of awaited innermost full came }
 {
-    let a = awaited_number(awaited);
+    let a = awaited.number();
     let s = sort_number(innermost);
     let opened = opened_line(innermost);
     let Some(answer) = came else {
-        let v = judge(0, a, s, full);
+        let v = judge(Said::END, a, s, full);
         return made(v, awaited, opened, Token::NoValue(0), Kept::End);
     };
     match answer {
         Ok(t) => {
-            let v = judge(kind(t), a, s, full);
+            let v = judge(Said::from(t).number, a, s, full);
             made(v, awaited, opened, t, Kept::Token(t))
         }
         Err(e) => refuse(e.refusal, e.line, awaited),

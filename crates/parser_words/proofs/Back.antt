@@ -1,6 +1,5 @@
 -- A parser's state is read back from its words.
 use Rattle.text.proofs.Cases.{on-cond}
-use Rattle.text.specs.declared.bytes.Part.{Part}
 use Prim.Native.Nat.{ℕ, zero, suc}
 use mathlib.Core.Path.{◌≡◌, refl, ap, ◌∙◌, sym}
 use mathlib.Core.List.{List, [], ◌∷◌, ◌++◌, append_assoc}
@@ -10,7 +9,8 @@ use lib.Dec.{eqb}
 use lib.ListN.{length, drop, get_or, take, get_or-eq_default, length-take}
 use lib.Seq.{drop_at, get_or-drop, drop-drop}
 use borrow.Author.Tests.{ne_eqb}
-use Rattle.parser_rules.specs.Judging.{awaited_number, awaited_line}
+use Rattle.std.specs.Prelude.{Option, Some, None}
+use Rattle.parser_rules.specs.Numbers.{number_of_sort, awaited_number, awaited_line}
 use Rattle.tokenizer.specs.Said.{token_of}
 use Rattle.tokenizer.specs.declared.said.Said.{Said}
 use Rattle.tokenizer_rows.specs.Rows.{row_of, said_in, token_in}
@@ -30,7 +30,7 @@ use Rattle.parser_rules.specs.declared.ruling.Kept.TheVariants as kept
 use Rattle.parser_rules.specs.declared.ruling.Section.{Section}
 use Rattle.parser.specs.declared.state.State.{State}
 use Rattle.tokenizer_words.specs.Words.{flag, words_of, state_in}
-use Rattle.parser_words.specs.ParserWords.{sort_word, section_words, awaited_words, kept_words, middle_words, parser_words, sort_in, sections_in, awaited_in, kept_in, parser_in}
+use Rattle.parser_words.specs.ParserWords.{section_words, kept_words, middle_words, parser_words, sort_in, sections_in, awaited_in, kept_in, parser_in}
 
 pub not-0 : (t : Token) → eqb (token_values t).number 0 ≡ false
 not-0 t = ne_eqb (token_values t).number 0 (λ e. let k = (kinds t).0 in omega arith)
@@ -75,11 +75,11 @@ kept_back kept.Nothing r e = refl
 kept_back kept.End r e = refl
 kept_back (kept.Token t) r e = rw (not-0 t, not-11 t) (ap kept.Token (six-back t r e))
 
-sort-back : (s : Sort) → sort_in (sort_word s) ≡ s
-unfolding sort_in sort_word
-sort-back sort.Unset = refl
-sort-back sort.Map = refl
-sort-back sort.List = refl
+sort-back : (s : Option Sort) → sort_in (number_of_sort s) ≡ s
+unfolding sort_in
+sort-back None = refl
+sort-back (Some sort.Map) = refl
+sort-back (Some sort.List) = refl
 
 pub sections-back : (l : List Section) (r : List ℕ) (n : ℕ) → length l ≡ n → sections_in n (section_words l ++ r) ≡ l
 unfolding sections_in section_words
@@ -88,30 +88,11 @@ sections-back [] r (suc n) e = absurd (omega arith)
 sections-back (s ∷ l) r zero e = absurd (omega arith)
 sections-back (s ∷ l) r (suc n) e = λ j. record { sort = sort-back s.sort j; line = s.line } ∷ sections-back l r n (omega arith) j
 
-awaited-back : (a : Awaited) → awaited_in (get_or (awaited_words a) 0 0) (get_or (awaited_words a) 1 0) ≡ a
-unfolding awaited_in awaited_words
+awaited-back : (a : Awaited) → awaited_in (awaited_number a) (awaited_line a) ≡ a
+unfolding awaited_in
 awaited-back awaited.Nothing = refl
 awaited-back (awaited.Value l) = refl
 awaited-back (awaited.Multiline l) = refl
-
--- the awaited words, and the kept ones, word by word
-awaited-words : (a : Awaited) (r : List ℕ) → get_or (awaited_words a) 0 0 ∷ get_or (awaited_words a) 1 0 ∷ r ≡ awaited_words a ++ r
-unfolding awaited_words
-awaited-words awaited.Nothing r = refl
-awaited-words (awaited.Value l) r = refl
-awaited-words (awaited.Multiline l) r = refl
-
-awaited-number : (a : Awaited) → get_or (awaited_words a) 0 0 ≡ awaited_number a
-unfolding awaited_words
-awaited-number awaited.Nothing = refl
-awaited-number (awaited.Value l) = refl
-awaited-number (awaited.Multiline l) = refl
-
-awaited-line : (a : Awaited) → get_or (awaited_words a) 1 0 ≡ awaited_line a
-unfolding awaited_words
-awaited-line awaited.Nothing = refl
-awaited-line (awaited.Value l) = refl
-awaited-line (awaited.Multiline l) = refl
 
 count_at : (k : Kept) (n : ℕ) (x : List ℕ) → get_or (kept_words k ++ (n ∷ x)) 7 0 ≡ n
 unfolding kept_words
@@ -127,11 +108,9 @@ past-8 (kept.Token t) n x = refl
 
 -- the middle, word by word
 middle-then : (s : State) (x : List ℕ)
-    → middle_words s ++ x ≡ flag s.refused ∷ get_or (awaited_words s.awaited) 0 0 ∷ get_or (awaited_words s.awaited) 1 0 ∷ (kept_words s.kept ++ (s.count ∷ x))
-unfolding middle_words
-middle-then s x = ap (λ y. flag s.refused ∷ y)
-    (append_assoc (awaited_words s.awaited ++ kept_words s.kept) (s.count ∷ []) x
-    ∙ append_assoc (awaited_words s.awaited) (kept_words s.kept) (s.count ∷ x) ∙ sym (awaited-words s.awaited _))
+    → middle_words s ++ x ≡ flag s.refused ∷ awaited_number s.awaited ∷ awaited_line s.awaited ∷ (kept_words s.kept ++ (s.count ∷ x))
+unfolding middle_words kept_words
+middle-then s x = refl
 
 module _ (s : State) (r : List ℕ) (e : length s.tokenizer.indents ≡ 64) where
   -- the words of a state, and others behind them
@@ -145,23 +124,17 @@ module _ (s : State) (r : List ℕ) (e : length s.tokenizer.indents ≡ 64) wher
   behind-137 = ap (drop 137) all_words ∙ drop_at (words_of s.tokenizer) (middle_words s ++ (section_words s.sections ++ r)) 137 (words-137 s.tokenizer e)
 
   tail : drop 137 (parser_words s ++ r)
-      ≡ flag s.refused ∷ get_or (awaited_words s.awaited) 0 0 ∷ get_or (awaited_words s.awaited) 1 0 ∷ (kept_words s.kept ++ (s.count ∷ (section_words s.sections ++ r)))
+      ≡ flag s.refused ∷ awaited_number s.awaited ∷ awaited_line s.awaited ∷ (kept_words s.kept ++ (s.count ∷ (section_words s.sections ++ r)))
   tail = behind-137 ∙ middle-then s (section_words s.sections ++ r)
 
   pub refused-word : get_or (parser_words s ++ r) 137 0 ≡ flag s.refused
   refused-word = sym (get_or-drop 137 (parser_words s ++ r) 0 0) ∙ ap (λ x. get_or x 0 0) tail
 
-  pub number_word : get_or (parser_words s ++ r) 138 0 ≡ get_or (awaited_words s.awaited) 0 0
-  number_word = sym (get_or-drop 137 (parser_words s ++ r) 1 0) ∙ ap (λ x. get_or x 1 0) tail
-
-  line_word : get_or (parser_words s ++ r) 139 0 ≡ get_or (awaited_words s.awaited) 1 0
-  line_word = sym (get_or-drop 137 (parser_words s ++ r) 2 0) ∙ ap (λ x. get_or x 2 0) tail
-
   pub number_at : get_or (parser_words s ++ r) 138 0 ≡ awaited_number s.awaited
-  number_at = number_word ∙ awaited-number s.awaited
+  number_at = sym (get_or-drop 137 (parser_words s ++ r) 1 0) ∙ ap (λ x. get_or x 1 0) tail
 
   pub line_at : get_or (parser_words s ++ r) 139 0 ≡ awaited_line s.awaited
-  line_at = line_word ∙ awaited-line s.awaited
+  line_at = sym (get_or-drop 137 (parser_words s ++ r) 2 0) ∙ ap (λ x. get_or x 2 0) tail
 
   pub kept_at : drop 140 (parser_words s ++ r) ≡ kept_words s.kept ++ (s.count ∷ (section_words s.sections ++ r))
   kept_at = sym (drop-drop 3 137 (parser_words s ++ r)) ∙ ap (drop 3) tail
@@ -179,7 +152,7 @@ module _ (s : State) (r : List ℕ) (e : length s.tokenizer.indents ≡ 64) wher
       let t : state_in (parser_words s ++ r) ≡ s.tokenizer = ap state_in all_words ∙ state-back s.tokenizer _ e in
       let k : kept_in (take 6 (drop 140 (parser_words s ++ r))) ≡ s.kept = ap (λ x. kept_in (take 6 x)) kept_at ∙ kept_back s.kept _ q in
       let a : awaited_in (get_or (parser_words s ++ r) 138 0) (get_or (parser_words s ++ r) 139 0) ≡ s.awaited =
-      (λ j. awaited_in (number_word j) (line_word j)) ∙ awaited-back s.awaited in
+      (λ j. awaited_in (number_at j) (line_at j)) ∙ awaited-back s.awaited in
       let b : eqb (get_or (parser_words s ++ r) 137 0) 1 ≡ s.refused = ap (λ x. eqb x 1) refused-word ∙ eqb-flag s.refused in
       let l : sections_in 65 (drop 148 (parser_words s ++ r)) ≡ s.sections = ap (sections_in 65) sections-at ∙ sections-back s.sections r 65 f in
       λ j. record { tokenizer = t j; kept = k j; awaited = a j; refused = b j; sections = l j; count = count_word j }

@@ -24,10 +24,12 @@ use Rattle.tokenizer_rows.proofs.Back.{kinds}
 use Rattle.tokenizer_rows.proofs.Claimed.{rows_tell, lists-tell}
 use Rattle.tokenizer_words.specs.Words.{flag, held_words, part_words, front_words, words_of, readable}
 use Rattle.tokenizer_words.proofs.Claimed.{flag-tells, states-back as tokenizers-back}
-use Rattle.parser_words.specs.ParserWords.{sort_word, section_words, awaited_words, kept_words, middle_words, parser_words, are_sorts, parser_readable}
+use Rattle.std.specs.Prelude.{Option, Some, None}
+use Rattle.parser_rules.specs.Numbers.{number_of_sort, awaited_number}
+use Rattle.parser_words.specs.ParserWords.{section_words, kept_words, middle_words, parser_words, are_sorts, parser_readable}
 use Rattle.parser_words.specs.Claims.{Slots, StatesBack, AnswerRows, AnswerLists, Layout}
 use Rattle.parser_words.proofs.Sections.{section-words-length}
-use Rattle.parser_words.proofs.Back.{all_words, refused-word, number_word, kept_at, sections-at, parser-back}
+use Rattle.parser_words.proofs.Back.{all_words, refused-word, number_at, kept_at, sections-at, parser-back}
 
 -- Each word that is tested stands for something
 
@@ -37,11 +39,10 @@ kept-tells kept.Nothing r = refl
 kept-tells kept.End r = refl
 kept-tells (kept.Token t) r = let k = (kinds t).1 in le-leb (token_values t).number 11 (omega arith)
 
-sort-tells : (s : Sort) → leb (sort_word s) 2 ≡ true
-unfolding sort_word
-sort-tells sort.Unset = refl
-sort-tells sort.Map = refl
-sort-tells sort.List = refl
+sort-tells : (s : Option Sort) → leb (number_of_sort s) 2 ≡ true
+sort-tells None = refl
+sort-tells (Some sort.Map) = refl
+sort-tells (Some sort.List) = refl
 
 sections-tell : (l : List Section) (r : List ℕ) (n : ℕ) → length l ≡ n → are_sorts n (section_words l ++ r) ≡ true
 unfolding are_sorts section_words
@@ -50,8 +51,7 @@ sections-tell [] r (suc n) e = absurd (omega arith)
 sections-tell (s ∷ l) r zero e = absurd (omega arith)
 sections-tell (s ∷ l) r (suc n) e = rw (sort-tells s.sort) (sections-tell l r n (omega arith))
 
-awaited-tells : (a : Awaited) → leb (get_or (awaited_words a) 0 0) 2 ≡ true
-unfolding awaited_words
+awaited-tells : (a : Awaited) → leb (awaited_number a) 2 ≡ true
 awaited-tells awaited.Nothing = refl
 awaited-tells (awaited.Value l) = refl
 awaited-tells (awaited.Multiline l) = refl
@@ -73,7 +73,7 @@ module _ (s : State) (r : List ℕ) (h : Slots s) where
         le-leb 278 (length (parser_words s ++ r)) long,
         ap readable (all_words s r h.0) ∙ (tokenizers-back s.tokenizer _ h.0).reads,
         ap (λ x. leb x 1) (refused-word s r h.0) ∙ flag-tells s.refused,
-        ap (λ x. leb x 2) (number_word s r h.0) ∙ awaited-tells s.awaited,
+        ap (λ x. leb x 2) (number_at s r h.0) ∙ awaited-tells s.awaited,
         ap (λ x. leb x 11) kept_word ∙ kept-tells s.kept _,
         ap (are_sorts 65) (sections-at s r h.0) ∙ sections-tell s.sections r 65 h.1.0,
       )
@@ -88,5 +88,5 @@ pub answer-lists : AnswerLists
 answer-lists = lists-tell values_of values-injective
 
 pub layout : Layout
-unfolding fresh fresh_tokenizer flag held_words part_words front_words words_of sort_word section_words awaited_words kept_words middle_words parser_words token_values
+unfolding fresh fresh_tokenizer flag held_words part_words front_words words_of section_words kept_words middle_words parser_words token_values
 layout = record { begins = refl; token_kept = refl; end_kept = refl }

@@ -15,13 +15,14 @@ use Rattle.tokenizer_words.proofs.Pasting.{pasted-room, pasted-front}
 use Rattle.tokenizer_words.proofs.Slots.{words-137}
 use Rattle.tokenizer_words.proofs.Standing.{pasted-behind, slots-64}
 use Rattle.tokenizer_words.proofs.Restoring.{held-3, held-left}
-use Rattle.parser_words.specs.ParserWords.{sort_word, section_words, middle_words, parser_words, sort_in, sections_in, parser_in, are_sorts, parser_readable}
+use Rattle.parser_rules.specs.Numbers.{number_of_sort}
+use Rattle.parser_words.specs.ParserWords.{section_words, middle_words, parser_words, sort_in, sections_in, parser_in, are_sorts, parser_readable}
 use Rattle.parser_words.proofs.Tests.{has-278}
 use Rattle.parser_words.proofs.Sections.{middle-11}
 
 -- a word that is a sort's, read and written again
-sort-back : (n : ℕ) → leb n 2 ≡ true → sort_word (sort_in n) ≡ n
-unfolding sort_word sort_in
+sort-back : (n : ℕ) → leb n 2 ≡ true → number_of_sort (sort_in n) ≡ n
+unfolding sort_in
 sort-back zero e = refl
 sort-back (suc zero) e = refl
 sort-back (suc (suc zero)) e = refl

@@ -2,7 +2,7 @@
 -- words stand in this order, without which two halves that are wrong alike would do. proofs/Claimed and Slotted prove
 -- them.
 use Rattle.tokenizer.specs.Token.{Answer, token_values, values_of}
-use Rattle.std.specs.Prelude.{ℕ, ◌≡◌, List, ◌∷◌, ◌++◌, map, Bool, true, false, length, replicate}
+use Rattle.std.specs.Prelude.{Some, ℕ, ◌≡◌, List, ◌∷◌, ◌++◌, map, Bool, true, false, length, replicate}
 use Rattle.text.specs.Bytes.{part}
 use Rattle.tokenizer.specs.Step.{fresh as fresh_tokenizer}
 use Rattle.tokenizer.specs.declared.token.Token.TheVariants.{MultilineValue}
@@ -33,7 +33,7 @@ Having T s = T s.tokenizer × ((length s.sections ≡ max_sections) × KeepsNone
 abbrev pub Slots : State → Type 0
 Slots s = Having TokenizerSlots s
 
--- a state is read back from its words, whatever words follow and whatever it keeps, and they are taken for a state's
+-- a state is read back from its words, whatever words follow, and they are taken for a state's
 pub record Back (s : State) (r : List ℕ) : Type 0 where
   pub state : parser_in (parser_words s ++ r) ≡ s
   pub reads : parser_readable (parser_words s ++ r) ≡ true
@@ -62,7 +62,7 @@ parsed b a k = record {
   kept = k;
   awaited = a;
   refused = b;
-  sections = record { sort = Map; line = 0 } ∷ record { sort = Listed; line = 7 } ∷ replicate 63 no_sort;
+  sections = record { sort = Some Map; line = 0 } ∷ record { sort = Some Listed; line = 7 } ∷ replicate 63 no_sort;
   count = 2;
 }
 

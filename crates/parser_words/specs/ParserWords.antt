@@ -3,53 +3,54 @@
 -- its line; a row for what is kept (number 0 for nothing, 11 for End); the number of open sections, and of each of the
 -- 65 its sort (0 unset, 1 map, 2 list) and the line of the key or item that opened it. 278 words. proofs/Back shows
 -- that the state is read back from them.
-use Rattle.std.specs.Prelude.{ℕ, zero, suc, ◌+◌, ◌*◌, List, [], ◌∷◌, ◌++◌, Bool, true, cond, ◌&&◌, eqb, leb, length, get_or, drop, take}
+use Rattle.std.specs.Prelude.{Option, Some, None, ℕ, zero, suc, ◌+◌, ◌*◌, List, [], ◌∷◌, ◌++◌, Bool, true, cond, ◌&&◌, eqb, leb, length, get_or, drop, take}
 use Rattle.tokenizer.specs.Token.{bare, token_values}
 use Rattle.parser.specs.Step.{max_sections, fresh}
+use Rattle.parser_rules.specs.Numbers.{number_of_sort, awaited_number, awaited_line}
 use Rattle.parser_rules.specs.declared.ruling.Sort.{Sort}
-use Rattle.parser_rules.specs.declared.ruling.Sort.TheVariants.{Unset, Map, List as Listed}
+use Rattle.parser_rules.specs.declared.ruling.Sort.TheVariants.{Map, List as Listed}
 use Rattle.parser_rules.specs.declared.ruling.Awaited.{Awaited}
 use Rattle.parser_rules.specs.declared.ruling.Awaited.TheVariants as awaited
 use Rattle.parser_rules.specs.declared.ruling.Kept.{Kept}
 use Rattle.parser_rules.specs.declared.ruling.Kept.TheVariants as kept
 use Rattle.parser_rules.specs.declared.ruling.Section.{Section}
 use Rattle.parser.specs.declared.state.State.{State}
-use Rattle.tokenizer_rows.specs.Rows.{row_of, token_in}
+use Rattle.tokenizer.specs.Said.{said_by}
+use Rattle.tokenizer.specs.declared.said.Said.{Said}
+use Rattle.tokenizer_rows.specs.Rows.{row_by, token_in}
 use Rattle.tokenizer_words.specs.Words.{tokenizer_size, flag, words_of, state_in, readable}
 
 -- how many words a parser's state has: the tokenizer's, eleven more, and two for each section, 278
 abbrev pub parser_size : ℕ
 parser_size = tokenizer_size + 11 + 2 * max_sections
 
-unfoldable pub sort_word : Sort → ℕ
-sort_word Unset = 0
-sort_word Map = 1
-sort_word Listed = 2
-
 unfoldable pub section_words : List Section → List ℕ
 section_words [] = []
-section_words (s ∷ l) = sort_word s.sort ∷ s.line ∷ section_words l
+section_words (s ∷ l) = number_of_sort s.sort ∷ s.line ∷ section_words l
 
-unfoldable pub awaited_words : Awaited → List ℕ
-awaited_words awaited.Nothing = 0 ∷ 0 ∷ []
-awaited_words (awaited.Value l) = 1 ∷ l ∷ []
-awaited_words (awaited.Multiline l) = 2 ∷ l ∷ []
+-- what is kept, as what a step says
+abbrev pub said_of : Kept → Said
+said_of kept.Nothing = said_by (bare 0 0)
+said_of kept.End = said_by (bare 11 0)
+said_of (kept.Token t) = said_by (token_values t)
 
 unfoldable pub kept_words : Kept → List ℕ
-kept_words kept.Nothing = row_of (bare 0 0)
-kept_words (kept.Token t) = row_of (token_values t)
-kept_words kept.End = row_of (bare 11 0)
+kept_words k = row_by (said_of k)
 
--- between the tokenizer's words and the sections': eleven words
+-- between the tokenizer's words and the sections', eleven words: refused or not, the number and the line of what is
+-- awaited, what is kept, and how many sections are open
+abbrev pub middle_by : Bool → ℕ → ℕ → Said → ℕ → List ℕ
+middle_by b a l k n = flag b ∷ a ∷ l ∷ (row_by k ++ (n ∷ []))
+
 unfoldable pub middle_words : State → List ℕ
-middle_words s = flag s.refused ∷ (awaited_words s.awaited ++ kept_words s.kept ++ (s.count ∷ []))
+middle_words s = middle_by s.refused (awaited_number s.awaited) (awaited_line s.awaited) (said_of s.kept) s.count
 
 -- the words of a state
 unfoldable pub parser_words : State → List ℕ
 parser_words s = words_of s.tokenizer ++ middle_words s ++ section_words s.sections
 
-unfoldable pub sort_in : ℕ → Sort
-sort_in n = get_or (Unset ∷ Map ∷ Listed ∷ []) n Unset
+unfoldable pub sort_in : ℕ → Option Sort
+sort_in n = get_or (None ∷ Some Map ∷ Some Listed ∷ []) n None
 
 -- n sections
 unfoldable pub sections_in : ℕ → List ℕ → List Section

@@ -3,4 +3,4 @@
 
 mod words;
 
-pub use words::{fresh_parser, is_parser, restore_parser, sort_word, store_parser};
+pub use words::{KEPT_END, fresh_parser, is_parser, middle_by, restore_parser, store_parser};

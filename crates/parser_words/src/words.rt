@@ -1,14 +1,13 @@
 // A parser's state in the words of a lent slice, in the order of specs/ParserWords.
-ghost use Rattle.std.specs.Prelude.{◌≡◌, cond, ◌&&◌, [], ◌∷◌, ◌++◌, ◌≤◌, leb, length, take, drop};
+ghost use Rattle.std.specs.Prelude.{◌≡◌, cond, ◌&&◌, ◌≤◌, leb, length, take, drop};
 ghost use Rattle.tokenizer.specs.Step.{fit};
-ghost use Rattle.tokenizer_words.specs.Words.{pasted, pasted_in, flag, held_words, state_in};
+ghost use Rattle.tokenizer_words.specs.Words.{pasted, pasted_in, held_words, state_in};
 ghost use Rattle.parser.specs.Step.{max_sections};
 ghost use Rattle.parser_words.specs.ParserWords.{
   parser_size,
-  sort_word,
   section_words,
-  awaited_words,
-  kept_words,
+  said_of,
+  middle_by,
   middle_words,
   parser_stored_in,
   awaited_in,
@@ -19,21 +18,21 @@ ghost use Rattle.parser_words.specs.ParserWords.{
   fresh_parser_in,
 };
 
-use parser::{Awaited, Kept, Section, Sort, State};
-use tokenizer_rows::{bare_row, token_in, token_row, word};
+use parser::{Awaited, Kept, Section, State};
+use parser_rules::{awaited, sort};
+use tokenizer::Said;
+use tokenizer_rows::{token_in, word};
 use tokenizer_words::{flag_of, held_by, held_words, is_fit, is_readable, paste, store};
+
+// The word of what is kept where that is End: the next after the kinds.
+pub const KEPT_END: usize = 11;
 
 // Whether the sorts of the 65 sections are sorts.
 fn are_sorts(w: &[usize]) -> bool
     requires { parser_size ≤ length w.now }
     ensures { result ≡ are_sorts max_sections (drop 148 w.now) }
 {
-    for k in 0..65 {
-        if 2 < w[148 + 2 * k] {
-            return false;
-        }
-    }
-    true
+    (0..65).all(|k| w[148 + 2 * k] <= sort::LIST)
 }
 
 // Whether the words are a parser's state.
@@ -45,7 +44,7 @@ pub fn is_parser(w: &[usize]) -> bool
     }
     let front = is_readable(w);
     let sorts = are_sorts(w);
-    front & ((w[137] <= 1) & ((w[138] <= 2) & ((w[140] <= 11) & sorts)))
+    front & ((w[137] <= 1) & ((w[138] <= awaited::MULTILINE) & ((w[140] <= KEPT_END) & sorts)))
 }
 
 #[tactic(auto, unfolding(crate::specs::ParserWords::awaited_in))]
@@ -53,8 +52,8 @@ fn awaited_in(n: usize, line: usize) -> Awaited
     ensures { result ≡ awaited_in n line }
 {
     match n {
-        1 => Awaited::Value(line),
-        2 => Awaited::Multiline(line),
+        awaited::VALUE => Awaited::Value(line),
+        awaited::MULTILINE => Awaited::Multiline(line),
         _ => Awaited::Nothing,
     }
 }
@@ -64,76 +63,58 @@ fn kept_in(w: &[usize]) -> Kept
     ensures { result ≡ kept_in w.now }
 {
     let number = word(w, 0);
-    if number == 0 {
+    if number == Said::END {
         return Kept::Nothing;
     }
-    if number == 11 {
+    if number == KEPT_END {
         return Kept::End;
     }
     Kept::Token(token_in(w))
 }
 
-// A sort's word. No `From`, since neither type is this crate's.
-#[tactic(auto, unfolding(crate::specs::ParserWords::sort_word))]
-pub fn sort_word(s: Sort) -> usize
-    ensures { result ≡ sort_word s }
-{
-    match s {
-        Sort::Unset => 0,
-        Sort::Map => 1,
-        Sort::List => 2,
-    }
-}
-
-#[tactic(auto, unfolding(crate::specs::ParserWords::awaited_words))]
-fn awaited_words(a: Awaited) -> [usize; 2]
-    ensures { result ≡ awaited_words a }
-{
-    match a {
-        Awaited::Nothing => [0, 0],
-        Awaited::Value(line) => [1, line],
-        Awaited::Multiline(line) => [2, line],
-    }
-}
-
-#[tactic(auto, unfolding(crate::specs::ParserWords::kept_words))]
-fn kept_words(k: Kept) -> [usize; 7]
-    ensures { result ≡ kept_words k }
+// What is kept, as what a step says.
+fn said_of(k: Kept) -> Said
+    ensures { result ≡ said_of k }
 {
     match k {
-        Kept::Nothing => bare_row(0, 0),
-        Kept::End => bare_row(11, 0),
-        Kept::Token(t) => token_row(t),
+        Kept::Nothing => Said::bare(Said::END, 0),
+        Kept::End => Said::bare(KEPT_END, 0),
+        Kept::Token(t) => Said::from(t),
     }
 }
 
 // The eleven words between the tokenizer's and the sections'.
-fn middle_by(refused: bool, awaited: Awaited, kept: Kept, count: usize) -> [usize; 11]
-    ensures { result ≡ flag refused ∷ (awaited_words awaited ++ kept_words kept ++ (count ∷ [])) }
+pub fn middle_by(
+    refused: bool,
+    awaited: usize,
+    line: usize,
+    kept: Said,
+    count: usize,
+) -> [usize; 11]
+    ensures { result ≡ middle_by refused awaited line kept count }
 {
-    let a = awaited_words(awaited);
-    let k = kept_words(kept);
     [
         flag_of(refused),
-        a[0],
-        a[1],
-        k[0],
-        k[1],
-        k[2],
-        k[3],
-        k[4],
-        k[5],
-        k[6],
+        awaited,
+        line,
+        kept.number,
+        kept.line,
+        kept.start,
+        kept.end,
+        kept.from,
+        kept.to,
+        kept.opened,
         count,
     ]
 }
 
+#[tactic(auto, unfolding(crate::specs::ParserWords::middle_words))]
 fn middle(s: State) -> [usize; 11]
     ensures { result ≡ middle_words s }
 {
     let awaited = s.awaited;
-    let kept = s.kept;
-    middle_by(s.refused, awaited, kept, s.count)
+    let kept = said_of(s.kept);
+    middle_by(s.refused, awaited.number(), awaited.line(), kept, s.count)
 }
 
 // Writes the sections, two words each, after the 148, as tokenizer_words writes its slots.
@@ -142,7 +123,7 @@ fn put_sections(sections: [Section; 65], w: &mut [usize])
     ensures { w.new ≡ pasted (section_words sections) 148 w.old }
 {
     for (k, s) in sections.iter().enumerate() {
-        w[148 + 2 * k] = sort_word(s.sort);
+        w[148 + 2 * k] = s.sort_number();
         w[149 + 2 * k] = s.line;
     }
 }
@@ -165,13 +146,14 @@ pub fn store_parser(s: State, words: &mut [usize]) -> bool
 }
 
 // The eleven words again, with 0 for those that stand for nothing.
+#[tactic(auto, unfolding(crate::specs::ParserWords::middle_words, crate::specs::ParserWords::parser_in))]
 fn middle_in(w: &[usize]) -> [usize; 11]
     requires { parser_size ≤ length w.now }
     ensures { result ≡ middle_words (parser_in w.now) }
 {
-    let kept = kept_in(&w[140..146]);
+    let kept = said_of(kept_in(&w[140..146]));
     let awaited = awaited_in(w[138], w[139]);
-    middle_by(w[137] == 1, awaited, kept, w[147])
+    middle_by(w[137] == 1, awaited.number(), awaited.line(), kept, w[147])
 }
 
 // Copies the words of a state, with 0 for those that stand for nothing.

@@ -2,7 +2,8 @@
 ghost use Rattle.std.specs.Prelude.{◌≡◌};
 ghost use Rattle.tokenizer.specs.Step.{step_of, fresh};
 
-use tokenizer::{Answer, State};
+use text::SyntaxError;
+use tokenizer::{Answer, State, Token};
 
 #[derive(Clone, Copy)]
 pub struct Tokenizer<'tok> {
@@ -21,14 +22,19 @@ impl<'tok> Tokenizer<'tok> {
             state: State::new(),
         }
     }
+}
+
+impl Iterator for Tokenizer<'_> {
+    type Item = Result<Token, SyntaxError>;
+
+    ghost next_gives = { λ r a s.
+        (a ≡ (step_of r.doc.now r.state).answer)
+        × (s.state ≡ (step_of r.doc.now r.state).state)
+        × (s.doc ≡ r.doc) };
 
     // The answer of one step over the document held; the state held is advanced by it. 12 and 15 leave it the very
-    // same.
-    pub fn next(&mut self) -> Answer
-        ensures value { result ≡ (step_of self.old.doc.now self.old.state).answer }
-        ensures state_after { self.new.state ≡ (step_of self.old.doc.now self.old.state).state }
-        ensures doc_unchanged { self.new.doc ≡ self.old.doc }
-    {
+    // same and come again, without end.
+    fn next(&mut self) -> Answer {
         let m = self.state.step(self.doc);
         self.state = m.state;
         m.answer

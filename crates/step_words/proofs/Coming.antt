@@ -20,9 +20,7 @@ use Rattle.tokenizer_rules.specs.declared.plan.Change.TheVariants as moves
 use Rattle.tokenizer.proofs.Fitness.{fitness}
 use Rattle.tokenizer.proofs.Kept.{step-fit}
 use Rattle.tokenizer.proofs.Advancing.{step-said}
-use Rattle.parser_rules.specs.Judging.{sort_number, opened_line, number_of_sort}
-use Rattle.parser_rules.specs.declared.ruling.Sort.{Sort}
-use Rattle.parser_rules.specs.declared.ruling.Sort.TheVariants as sort
+use Rattle.parser_rules.specs.Judging.{sort_number, opened_line}
 use Rattle.parser_rules.specs.declared.ruling.Kept.{Kept}
 use Rattle.parser_rules.specs.declared.ruling.Kept.TheVariants as kept
 use Rattle.parser.specs.Step.{no_sort, innermost_of, came_of}
@@ -30,37 +28,31 @@ use Rattle.parser_rules.specs.declared.ruling.Section.{Section}
 use Rattle.tokenizer_words.specs.Words.{words_of, state_in}
 use Rattle.tokenizer_words.proofs.Standing.{slots-64}
 use Rattle.tokenizer_words.proofs.Slotted.{step-slots}
-use Rattle.parser_words.specs.ParserWords.{sort_word, section_words, kept_words}
+use Rattle.parser_words.specs.ParserWords.{section_words, kept_words}
 use Rattle.front_words.specs.Fronts.{committed}
-use Rattle.step_words.specs.Stepping.{kept_number, came_in, innermost_at, sort_at, opened_at}
+use Rattle.step_words.specs.Stepping.{kept_number, came_in, innermost_in, sort_at, opened_at}
 use Rattle.step_words.specs.declared.step.Layer.TheVariants.{Parser}
 use Rattle.front_words.proofs.Fronts.{stepped, step-committed}
 use Rattle.parser_words.proofs.Sections.{section-at}
 use Rattle.parser_words.proofs.Back.{not-0, not-11}
 
 -- the innermost section's sort, by number, and its line
-of-sort : (s : Sort) → sort_word s ≡ number_of_sort s
-unfolding sort_word
-of-sort sort.Unset = refl
-of-sort sort.Map = refl
-of-sort sort.List = refl
-
 module _ (l : List Section) (w r : List ℕ) (e : drop 148 w ≡ section_words l ++ r) (f : length l ≡ 65) where
   at-148 : (i : ℕ) → get_or w (148 + i) 0 ≡ get_or (section_words l ++ r) i 0
   at-148 i = sym (get_or-drop 148 w i 0) ∙ ap (λ x. get_or x i 0) e
 
   pub sort-is : (n : ℕ) → sort_at n w ≡ sort_number (innermost_of l n)
-  unfolding innermost_at innermost_of
+  unfolding innermost_in innermost_of
   sort-is zero = refl
   sort-is (suc k) =
       by_bool (ltb k 65)
       (λ q.
       let h = ltb-true k 65 q in
-      rw q (at-148 (2 * k) ∙ (section-at l r k no_sort (omega arith)).0 ∙ of-sort (get_or l k no_sort).sort))
+      rw q (at-148 (2 * k) ∙ (section-at l r k no_sort (omega arith)).0))
       (λ q. rw q)
 
   pub opened-is : (n : ℕ) → opened_at n w ≡ opened_line (innermost_of l n)
-  unfolding innermost_at innermost_of
+  unfolding innermost_in innermost_of
   opened-is zero = refl
   opened-is (suc k) =
       by_bool (ltb k 65)

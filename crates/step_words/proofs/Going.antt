@@ -15,7 +15,8 @@ use Rattle.tokenizer.specs.Step.{fit}
 use Rattle.tokenizer.specs.Said.{said_by}
 use Rattle.tokenizer.specs.declared.state.State.{State as Tokenizer}
 use Rattle.parser_rules.specs.Ruling.{ruling_of}
-use Rattle.parser_rules.specs.Judging.{sort_number, opened_line, awaited_number, awaited_line, judged_by}
+use Rattle.parser_rules.specs.Numbers.{awaited_number, awaited_line}
+use Rattle.parser_rules.specs.Judging.{sort_number, opened_line, judged_by}
 use Rattle.parser_rules.specs.declared.ruling.Ruling.{Ruling}
 use Rattle.parser_rules.specs.declared.ruling.Ruling.TheVariants.{Says, End, Unfit}
 use Rattle.parser.specs.Step.{innermost_of, full_of, on_ruling, step_with, came_of, step_kept, step_of}

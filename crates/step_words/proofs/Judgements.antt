@@ -28,7 +28,7 @@ use Rattle.parser_rules.specs.declared.judging.Judged.TheVariants.{
 }
 use Rattle.parser.specs.Step.{ChangeFits}
 use Rattle.step_words.specs.Outcomes.{outcome_by}
-use Rattle.step_words.specs.Stepping.{innermost_at, sort_at, judged_in}
+use Rattle.step_words.specs.Stepping.{innermost_in, sort_at, judged_in}
 use Rattle.step_words.specs.declared.step.Layer.{Layer}
 use Rattle.step_words.specs.declared.step.Layer.TheVariants.{Tokenizer, Parser}
 
@@ -50,7 +50,7 @@ Sound n Unfit = Unit {0}
 
 -- a sort other than 3 is that of a section
 has-sort : (n : ℕ) (w : List ℕ) → eqb (sort_at n w) 3 ≡ false → (0 < n) × (n ≤ 65)
-unfolding innermost_at
+unfolding innermost_in
 has-sort zero w e = absurd (clash e)
 has-sort (suc k) w e =
     by_bool (ltb k 65) (λ q. let h = ltb-true k 65 q in (omega arith, omega arith)) (λ q. absurd (clash (rw q at e)))

@@ -22,7 +22,7 @@ use Rattle.parser_words.specs.Stops.{is_stop}
 
 -- what it says, if anything, does not stop
 abbrev pub GoesOn : Ruling → Type 0
-GoesOn (Says v) = is_stop v.answer ≡ false
+GoesOn (Says v) = is_stop (Some v.answer) ≡ false
 GoesOn End = Unit {0}
 GoesOn Unfit = Unit {0}
 

@@ -1,5 +1,5 @@
 -- Intermediate, tied to the law by proofs/Agreeing and Putting: what a judgement of the parser's leaves, and its words.
-use Rattle.std.specs.Prelude.{ℕ, ◌+◌, ◌*◌, List, [], ◌∷◌, ◌++◌, true, false, cond, eqb, set}
+use Rattle.std.specs.Prelude.{ℕ, Some, ◌+◌, ◌*◌, List, cond, eqb, leb, set}
 use Rattle.text.specs.Numbers.{missing_multiline, unfit_state, number_of}
 use Rattle.tokenizer.specs.Token.{bare, refusal_number}
 use Rattle.tokenizer.specs.Said.{said_by}
@@ -24,9 +24,9 @@ use Rattle.parser_rules.specs.declared.ruling.Sort.TheVariants as sort
 use Rattle.parser_rules.specs.declared.ruling.Change.{Change}
 use Rattle.parser_rules.specs.declared.ruling.Change.TheVariants.{Keep, Fix, Open, Close}
 use Rattle.parser.specs.Step.{count_after}
-use Rattle.tokenizer_rows.specs.Rows.{row_by}
-use Rattle.tokenizer_words.specs.Words.{pasted_in, flag}
-use Rattle.parser_words.specs.ParserWords.{sort_word}
+use Rattle.tokenizer_words.specs.Words.{pasted_in}
+use Rattle.parser_words.specs.ParserWords.{middle_by}
+use Rattle.parser_rules.specs.Numbers.{number_of_sort}
 use Rattle.step_words.specs.declared.outcome.Outcome.{Outcome}
 
 abbrev pub nothing : Said
@@ -45,10 +45,7 @@ carrying o s = record {
 }
 
 abbrev pub given : Said → ℕ → ℕ → Change → Outcome
-given s n l c = record { answer = s; refused = false; awaited = n; line = l; kept = nothing; change = c }
-
-abbrev pub denied : Said → ℕ → ℕ → Outcome
-denied s n l = record { answer = s; refused = true; awaited = n; line = l; kept = nothing; change = Keep }
+given s n l c = record { answer = s; awaited = n; line = l; kept = nothing; change = c }
 
 -- what is kept of what came: 11 for End
 abbrev pub kept_by : Said → Said
@@ -57,30 +54,30 @@ kept_by s = cond (eqb s.number 0) (said_by (bare 11 0)) s
 -- what a judgement leaves, s having come where n was awaited with the line l, and o opened the innermost section
 unfoldable pub outcome_by : Judged → Said → ℕ → ℕ → ℕ → Outcome
 outcome_by GivesOn s n l o = given s n l Keep
-outcome_by NoValue s n l o = record { answer = said_by (bare 10 l); refused = false; awaited = 0; line = 0; kept = kept_by s; change = Keep }
+outcome_by NoValue s n l o = record { answer = said_by (bare 10 l); awaited = 0; line = 0; kept = kept_by s; change = Keep }
 outcome_by Opens s n l o = given s 0 0 (Open l)
 outcome_by Closes s n l o = given (carrying o s) 0 0 Close
 outcome_by Map s n l o = given s 1 s.line (Fix sort.Map)
 outcome_by Listed s n l o = given s 1 s.line (Fix sort.List)
 outcome_by Hint s n l o = given s 2 l Keep
 outcome_by Value s n l o = given s 0 0 Keep
-outcome_by Passes s n l o = denied s n l
-outcome_by (Refuses r) s n l o = denied (said_by (bare (refusal_number (number_of r)) s.line)) 0 0
-outcome_by RefusesEntry s n l o = denied (said_by (bare (refusal_number missing_multiline) l)) 0 0
+outcome_by Passes s n l o = given s n l Keep
+outcome_by (Refuses r) s n l o = given (said_by (bare (refusal_number (number_of r)) s.line)) 0 0 Keep
+outcome_by RefusesEntry s n l o = given (said_by (bare (refusal_number missing_multiline) l)) 0 0 Keep
 outcome_by End s n l o = given nothing 0 0 Keep
-outcome_by Unfit s n l o = denied (said_by (bare (refusal_number unfit_state) 0)) 0 0
+outcome_by Unfit s n l o = given (said_by (bare (refusal_number unfit_state) 0)) 0 0 Keep
 
--- the eleven middle words, n sections being open
-abbrev pub middle_by : Outcome → ℕ → List ℕ
-middle_by o n = flag o.refused ∷ o.awaited ∷ o.line ∷ (row_by o.kept ++ (count_after o.change n ∷ []))
+-- the eleven middle words, n sections being open: the answer's number says whether it is a refusal
+abbrev pub middle_after : Outcome → ℕ → List ℕ
+middle_after o n = middle_by (leb (refusal_number 0) o.answer.number) o.awaited o.line o.kept (count_after o.change n)
 
 -- the words with a section's sort, and the line of one that opens, n being open
 unfoldable pub section_put : Change → ℕ → List ℕ → List ℕ
 section_put Keep n w = w
-section_put (Fix s) n w = set w (146 + 2 * n) (sort_word s)
+section_put (Fix s) n w = set w (146 + 2 * n) (number_of_sort (Some s))
 section_put (Open o) n w = set (set w (148 + 2 * n) 0) (149 + 2 * n) o
 section_put Close n w = w
 
 -- the words with what a judgement leaves
 unfoldable pub outcome_in : Outcome → ℕ → List ℕ → List ℕ
-outcome_in o n w = pasted_in (middle_by o n) 137 (section_put o.change n w)
+outcome_in o n w = pasted_in (middle_after o n) 137 (section_put o.change n w)

@@ -1,13 +1,11 @@
 -- Intermediate, tied to the law by proofs/Going: one step of a state in words, in place. Of the words of a fit state it is the
 -- step of specs/Step, the tokenizer's or the parser's; of any others it is stated too, so that it asks nothing.
-use Rattle.std.specs.Prelude.{ℕ, zero, suc, ◌+◌, ◌*◌, List, Bool, false, cond, ◌||◌, eqb, leb, ltb, get_or, take, drop}
+use Rattle.std.specs.Prelude.{Option, Some, None, ℕ, zero, suc, ◌+◌, ◌*◌, List, Bool, false, cond, ◌||◌, eqb, leb, ltb, get_or, take, drop}
 use Rattle.tokenizer.specs.Token.{bare}
-use Rattle.tokenizer.specs.Step.{no_part}
 use Rattle.tokenizer.specs.Said.{said_by}
-use Rattle.tokenizer.specs.Front.{front_of, ahead_of}
+use Rattle.tokenizer.specs.Front.{front_of, unmoved, ahead_of}
 use Rattle.tokenizer.specs.declared.said.Said.{Said}
 use Rattle.tokenizer.specs.declared.front.Advanced.{Advanced}
-use Rattle.tokenizer_rules.specs.declared.plan.Change.TheVariants.{Keep}
 use Rattle.parser_rules.specs.Judging.{judged_by}
 use Rattle.parser_rules.specs.declared.judging.Judged.{Judged}
 use Rattle.parser_rules.specs.declared.judging.Judged.TheVariants.{GivesOn, End}
@@ -16,6 +14,8 @@ use Rattle.tokenizer_words.specs.Words.{pasted_in, state_in}
 use Rattle.front_words.specs.Fronts.{committed}
 use Rattle.step_words.specs.Outcomes.{nothing, outcome_by, outcome_in}
 use Rattle.step_words.specs.declared.outcome.Outcome.{Outcome}
+use Rattle.step_words.specs.declared.outcome.SectionWords.{SectionWords}
+use Rattle.std.specs.Option.{option_map_or}
 use Rattle.step_words.specs.declared.step.Layer.{Layer}
 use Rattle.step_words.specs.declared.step.Layer.TheVariants.{Tokenizer, Parser}
 
@@ -36,21 +36,20 @@ kept_said w = cond (eqb (get_or w 140 0) 11) nothing (said_in (take 6 (drop 140 
 -- what was kept comes again and moves nothing, else the tokenizer's next
 unfoldable pub came_in : Layer → List ℕ → List ℕ → Advanced
 came_in layer d w =
-    cond (eqb (kept_number layer w) 0) (ahead_of d (state_in w))
-    (record { said = kept_said w; front = front_of (state_in w); change = Keep; indent = no_part })
+    cond (eqb (kept_number layer w) 0) (ahead_of d (state_in w)) (unmoved (kept_said w) (front_of (state_in w)))
 
--- a word of the innermost section, n being open: its sort where k is 0, its line where k is 1; z where there is none
-unfoldable pub innermost_at : ℕ → ℕ → ℕ → List ℕ → ℕ
-innermost_at k z zero w = z
-innermost_at k z (suc n) w = cond (ltb n 65) (get_or w (148 + k + 2 * n) 0) z
+-- the two words of the innermost section, n being open
+unfoldable pub innermost_in : ℕ → List ℕ → Option SectionWords
+innermost_in zero w = None
+innermost_in (suc n) w = cond (ltb n 65) (Some (record { sort = get_or w (148 + 2 * n) 0; line = get_or w (149 + 2 * n) 0 })) None
 
 -- its sort; 3 where there is none
 abbrev pub sort_at : ℕ → List ℕ → ℕ
-sort_at n w = innermost_at 0 3 n w
+sort_at n w = option_map_or (λ (s : SectionWords). s.sort) (innermost_in n w) 3
 
 -- the line of the key or item that opened it; 0 where there is none
 abbrev pub opened_at : ℕ → List ℕ → ℕ
-opened_at n w = innermost_at 1 0 n w
+opened_at n w = option_map_or (λ (s : SectionWords). s.line) (innermost_in n w) 0
 
 -- what is judged of an answer of that number: the tokenizer gives all but End on
 unfoldable pub judged_in : Layer → ℕ → List ℕ → Judged

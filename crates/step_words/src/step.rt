@@ -14,13 +14,12 @@ ghost use Rattle.step_words.specs.Stepping.{
   row_in,
 };
 
-use crate::outcome::{Outcome, innermost_at, outcome_of, put_outcome};
+use crate::outcome::{Outcome, outcome_of, put_outcome, sort_at};
 use front_words::{commit, inner_in};
 use parser_rules::{Judged, judge};
-use text::Part;
+use parser_words::KEPT_END;
 use tokenizer::{Advanced, Said, advance};
 use tokenizer_rows::{said_in, said_row};
-use tokenizer_rules::Change;
 use tokenizer_words::{front_in, paste};
 
 // Whose step it is: the tokenizer's, of the first 137 words, or the parser's. An enum that is asked in four places, no
@@ -46,17 +45,17 @@ fn kept_number(layer: Layer, w: &[usize; 278]) -> usize
     ensures { result ≡ kept_number layer w.now }
 {
     match layer {
-        Layer::Tokenizer => 0,
+        Layer::Tokenizer => Said::END,
         Layer::Parser => w[140],
     }
 }
 
-// What was kept, as what a step says: 11 is End.
+// What was kept, as what a step says.
 fn kept_said(w: &[usize; 278]) -> Said
     ensures { result ≡ kept_said w.now }
 {
-    if w[140] == 11 {
-        return Said::bare(0, 0);
+    if w[140] == KEPT_END {
+        return Said::bare(Said::END, 0);
     }
     said_in(&w[140..146])
 }
@@ -66,18 +65,13 @@ fn came(doc: &[u8], layer: Layer, w: &[usize; 278]) -> Advanced
     ensures { result ≡ came_in layer doc.now w.now }
 {
     let front = front_in(w);
-    if kept_number(layer, w) == 0 {
+    if kept_number(layer, w) == Said::END {
         let inner = inner_in(front.depth, w);
         let m = advance(doc, front, inner);
         return m;
     }
     let said = kept_said(w);
-    Advanced {
-        said,
-        front,
-        change: Change::Keep,
-        indent: Part { start: 0, end: 0 },
-    }
+    Advanced::unmoved(said, front)
 }
 
 // What is made of an answer of that number; the tokenizer gives all but End on.
@@ -86,7 +80,7 @@ fn judged(layer: Layer, number: usize, w: &[usize; 278]) -> Judged
 {
     match layer {
         Layer::Tokenizer => {
-            if number == 0 {
+            if number == Said::END {
                 Judged::End
             } else {
                 Judged::GivesOn
@@ -94,8 +88,8 @@ fn judged(layer: Layer, number: usize, w: &[usize; 278]) -> Judged
         }
         Layer::Parser => {
             let count = w[147];
-            let sort = innermost_at(0, 3, count, w);
-            let v = judge(number, w[138], sort, 65 <= count);
+            let innermost = sort_at(count, w);
+            let v = judge(number, w[138], innermost, 65 <= count);
             v
         }
     }
@@ -120,7 +114,7 @@ fn leave(layer: Layer, o: Outcome, count: usize, w: &mut [usize; 278])
     }
 }
 
-// One step: its number, with its row written from `at` on; or, with nothing written, 0 for End or 271 for 15.
+// One step: its number, with its row written from `at` on; or, with nothing written, that of End or of 15.
 pub fn step_in(
     doc: &[u8],
     layer: Layer,

@@ -1,15 +1,15 @@
 -- Texts compared: one begins with two others one behind the other, and two are the same where one begins with the other and they
 -- are as long as each other.
 use Prim.Native.Nat.{ℕ, ◌≤◌}
-use mathlib.Core.Path.{◌≡◌, refl, sym, ap, ◌∙◌}
+use mathlib.Core.Path.{◌≡◌, refl, sym, ◌∙◌}
 use mathlib.Core.List.{List, [], ◌∷◌, ◌++◌}
 use mathlib.Core.Bool.{true, ◌&&◌}
 use lib.Dec.{eqb, ltb, eqb-suc-suc, eqb-zero-suc}
 use lib.ListN.{length, drop}
-use lib.Pointwise.{pointwise}
-use borrow.Author.Tests.{eqb-true, ltb-true, ltb-false}
+use borrow.Author.Tests.{ltb-true, ltb-false}
+use Rattle.std.specs.Cmp.Lexicographic.{same_text}
 use Rattle.text.specs.Bytes.{starts_with, is_same}
-use Rattle.text.proofs.Cases.{by_bool, clash, and_left, and_right}
+use Rattle.text.proofs.Cases.{by_bool, clash}
 use Rattle.text.proofs.Prefix.{short}
 
 pub starts-append : (a b s : List ℕ) → starts_with (a ++ b) s ≡ starts_with a s && starts_with b (drop (length a) s)
@@ -28,18 +28,6 @@ same-starts [] (y ∷ s) = sym (eqb-zero-suc (length s))
 same-starts (x ∷ a) [] = refl
 same-starts (x ∷ a) (y ∷ s) = by_bool (eqb x y) (λ e. rw (e, eqb-suc-suc) (same-starts a s)) (λ e. rw e)
 
--- std's `==` of two slices
-pub std_same : (a s : List ℕ) → pointwise eqb a s ≡ is_same a s
-unfolding is_same
-std_same [] [] = refl
-std_same [] (y ∷ s) = refl
-std_same (x ∷ a) [] = refl
-std_same (x ∷ a) (y ∷ s) = ap (λ t. eqb x y && t) (std_same a s)
-
 pub same-is : (a s : List ℕ) → is_same a s ≡ true → a ≡ s
 unfolding is_same
-same-is [] [] e = refl
-same-is [] (y ∷ s) e = absurd (clash (sym e))
-same-is (x ∷ a) [] e = absurd (clash (sym e))
-same-is (x ∷ a) (y ∷ s) e =
-    rw (eqb-true x y (and_left (eqb x y) (is_same a s) e), same-is a s (and_right (eqb x y) (is_same a s) e))
+same-is a s e = same_text a s (sym e)

@@ -1,7 +1,8 @@
 -- Law: document 01, 'Bytes and UTF-8': blanks, line breaks, the line's end; and texts compared. A text is the list of its
 -- bytes.
-use Rattle.std.specs.Prelude.{ℕ, ◌+◌, List, [], ◌∷◌, Bool, true, false, cond, not, ◌||◌, ◌&&◌, eqb}
-use Rattle.std.specs.List.{prefix_len}
+use Rattle.std.specs.Prelude.{ℕ, ◌+◌, List, [], ◌∷◌, Bool, cond, not, ◌||◌, ◌&&◌, eqb}
+use Rattle.std.specs.List.{prefix_len, starts_with as begins}
+use Rattle.std.specs.Str.{bytes_eq}
 use Prim.Native.Char.{code as byte}
 use Rattle.text.specs.declared.bytes.Part.{Part}
 
@@ -28,16 +29,11 @@ line_end s = prefix_len not_break s
 
 -- whether the text begins with the bytes of p
 unfoldable pub starts_with : List ℕ → List ℕ → Bool
-starts_with [] s = true
-starts_with (a ∷ p) [] = false
-starts_with (a ∷ p) (b ∷ s) = let t = starts_with p s in eqb a b && t
+starts_with p s = begins eqb s p
 
 -- the same bytes
 unfoldable pub is_same : List ℕ → List ℕ → Bool
-is_same [] [] = true
-is_same [] (b ∷ t) = false
-is_same (a ∷ s) [] = false
-is_same (a ∷ s) (b ∷ t) = let u = is_same s t in eqb a b && u
+is_same s t = bytes_eq s t
 
 -- a part by its start and its end
 abbrev pub part : ℕ → ℕ → Part
@@ -45,4 +41,4 @@ part a e = record { start = a; end = e }
 
 -- a part, counted from n bytes further in front
 abbrev pub shifted_by : ℕ → Part → Part
-shifted_by n p = record { start = n + p.start; end = n + p.end }
+shifted_by n p = part (n + p.start) (n + p.end)

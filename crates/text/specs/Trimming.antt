@@ -1,6 +1,6 @@
 -- Law: document 01, 'Bytes and UTF-8': trimming, over which bytes it drops.
 use Rattle.std.specs.Prelude.{ℕ, zero, suc, List, [], ◌∷◌, Bool, cond, ◌||◌, eqb}
-use Rattle.text.specs.Bytes.{is_blank, is_break}
+use Rattle.text.specs.Bytes.{is_blank, is_break, part}
 use Rattle.std.specs.List.{prefix_len}
 use Rattle.text.specs.declared.bytes.Part.{Part}
 use Rattle.text.specs.declared.trimming.Dropped.{Dropped}
@@ -24,5 +24,5 @@ kept_end p (b ∷ r) = keep_more (p b) (kept_end p r)
 -- the part without the dropped bytes at both ends; where all are dropped, the empty part at the start
 unfoldable pub trimmed : (ℕ → Bool) → List ℕ → Part
 trimmed p s =
-    let whole : Part = record { start = prefix_len p s; end = kept_end p s } in
-    cond (eqb (kept_end p s) 0) (record { start = 0; end = 0 }) whole
+    let whole = part (prefix_len p s) (kept_end p s) in
+    cond (eqb (kept_end p s) 0) (part 0 0) whole

@@ -10,6 +10,11 @@ pub struct Part {
     pub end: usize,
 }
 
+impl Part {
+    // The empty part at 0: what has no text of its own.
+    pub const EMPTY: Part = Part { start: 0, end: 0 };
+}
+
 // Whether b is a blank: a space or a tab.
 #[tactic(auto, unfolding(crate::specs::Bytes::is_blank))]
 pub fn is_whitespace(b: u8) -> bool
@@ -26,8 +31,8 @@ pub fn is_newline(b: u8) -> bool
     b == b'\r' || b == b'\n'
 }
 
-// The size of the line break that s begins with, 2 for CR LF; 0 where it begins with none: a length, which callers add
-// to a place.
+// The size of the line break that s begins with, 2 for CR LF; 0 where it begins with none: a length, as the rule has
+// it. Where it moves the place, an Option would be undone.
 #[tactic(auto, using(crate::proofs::Front::unbroken, crate::proofs::Front::bare, crate::proofs::Front::broken))]
 pub fn newline_size(s: &[u8]) -> usize
     ensures { result ≡ break_size s.now }
@@ -59,7 +64,7 @@ pub fn line_end(s: &[u8]) -> usize
 }
 
 // Whether s begins with the bytes of p.
-#[tactic(auto, using(crate::proofs::Prefix::std_starts))]
+#[tactic(auto, unfolding(crate::specs::Bytes::starts_with))]
 pub fn starts_with(s: &[u8], p: &[u8]) -> bool
     ensures { result ≡ starts_with p.now s.now }
 {
@@ -67,7 +72,7 @@ pub fn starts_with(s: &[u8], p: &[u8]) -> bool
 }
 
 // Whether two texts have the same bytes.
-#[tactic(auto, using(crate::proofs::Same::std_same))]
+#[tactic(auto, unfolding(crate::specs::Bytes::is_same))]
 pub fn is_same(a: &[u8], b: &[u8]) -> bool
     ensures { result ≡ is_same a.now b.now }
 {

@@ -1,4 +1,4 @@
-// The bytes of a layout: blanks, line breaks, trimming.
+// The bytes of a layout: blanks, line breaks, trimming. And the refusals.
 #![tactic(auto)]
 
 mod bytes;

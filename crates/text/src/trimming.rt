@@ -58,7 +58,7 @@ pub fn trim(which: Dropped, s: &[u8]) -> Part
 {
     let end = s.len() - which.after(s);
     if end == 0 {
-        return Part { start: 0, end: 0 };
+        return Part::EMPTY;
     }
     Part {
         start: which.before(s),

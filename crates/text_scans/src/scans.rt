@@ -17,7 +17,9 @@ fn eight<F: Fn(usize) -> bool>(test: &F, i: usize) -> bool
         & test(i + 7)
 }
 
-// How many of the first n places pass the test before one fails, in whole eights.
+// How many of the first n places pass the test before one fails, in whole eights. By places, since `same_eights` reads
+// two texts at each. A loop, since the test is known at these places alone: the library's law of `take_while` wants it
+// known at every number.
 fn eights<F: Fn(usize) -> bool>(test: F, n: usize) -> usize
     requires callable { (i : ℕ) → i < n → F.pre test i }
     ensures value { (t : ℕ → Bool) → Computes (F.post test) n t → result ≡ eights t n }

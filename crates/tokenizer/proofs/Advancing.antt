@@ -4,50 +4,34 @@ use mathlib.Core.Path.{◌≡◌, ap, ◌∙◌}
 use mathlib.Core.List.{List}
 use mathlib.Core.Bool.{true, false}
 use native.Mathlib.Omega.{arith}
-use lib.Dec.{leb, ltb}
 use lib.ListN.{length, drop, length-drop}
-use borrow.Author.Tests.{le-leb, leb-true, lt-ltb, le-ltb}
+use borrow.Author.Tests.{lt-ltb, le-ltb}
 use Rattle.text.specs.declared.bytes.Part.{Part}
 use Rattle.text.specs.declared.refusals.Refusal.TheVariants.{TooLong, UnfitState}
 use Rattle.text.proofs.Cases.{and_left, and_right}
 use Rattle.tokenizer_rules.specs.Plan.{plan_at}
 use Rattle.tokenizer_rules.specs.declared.plan.Plan.{Plan}
 use Rattle.tokenizer.specs.Token.{values_of}
-use Rattle.tokenizer.specs.Step.{inner_of, indents_after, depth_after, reach, plan_with, after_plan, step_with, step_rule, fit_part, fit_held, fit, step_of}
+use Rattle.tokenizer.specs.Step.{inner_of, indents_after, depth_after, reach, plan_with, after_plan, step_with, step_rule, fit_part, fit, step_of}
 use Rattle.tokenizer.specs.Front.{front_of, front_fit, advance_with, advance_rule, near, staying, advanced_of, state_by}
 use Rattle.tokenizer.specs.declared.state.State.{State}
 use Rattle.tokenizer.specs.declared.front.Front.{Front}
 use Rattle.tokenizer.proofs.Bounds.{plan-bounded}
-use Rattle.tokenizer.proofs.Fitness.{fitness, inner-fit}
+use Rattle.tokenizer.proofs.Fitness.{FrontFitness, front-fitness, fitness, fit_parts, inner-fit}
 use Rattle.tokenizer.proofs.Numbers.{ruled-number}
 use Rattle.tokenizer.proofs.Steps.{ruled}
 use Rattle.tokenizer.proofs.Valued.{back}
 use Rattle.tokenizer.specs.Said.{said_by, answer_by}
 use Rattle.tokenizer.specs.declared.state.Step.{Step}
 
--- what a step uses, test by test
-pub record Nearness (n : ℕ) (f : Front) (inner : Part) : Type 0 where
-  pub place : f.place ≤ n
-  pub line-high : f.line ≤ f.place + 1
-  pub held : fit_held n f.held ≡ true
-  pub depth : f.depth ≤ 64
-  pub innermost : fit_part n inner ≡ true
+-- what a step uses: the front, and the innermost open indentation
+pub near-front : (n : ℕ) (f : Front) (inner : Part) → near n f inner ≡ true → FrontFitness n f
+unfolding near
+near-front n f inner e = front-fitness n f (and_left _ (fit_part n inner) e)
 
-pub nearness : (n : ℕ) (f : Front) (inner : Part) → near n f inner ≡ true → Nearness n f inner
-unfolding near front_fit
-nearness n f inner e =
-    let e₀ = and_left _ (fit_part n inner) e in
-    let e₁ = and_right (leb f.place n) _ e₀ in
-    let e₂ = and_right (ltb 0 f.line) _ e₁ in
-    let e₃ = and_right (leb f.line (f.place + 1)) _ e₂ in
-    let e₄ = and_right (fit_held n f.held) _ e₃ in
-    record {
-      place = leb-true f.place n (and_left (leb f.place n) _ e₀);
-      line-high = leb-true f.line (f.place + 1) (and_left (leb f.line (f.place + 1)) _ e₂);
-      held = and_left (fit_held n f.held) _ e₃;
-      depth = leb-true f.depth 64 e₄;
-      innermost = and_right _ (fit_part n inner) e;
-    }
+pub near-inner : (n : ℕ) (f : Front) (inner : Part) → near n f inner ≡ true → fit_part n inner ≡ true
+unfolding near
+near-inner n f inner e = and_right (front_fit n f) _ e
 
 -- what a plan adds fits a machine word
 pub record Room (f : Front) (p : Plan) : Type 0 where
@@ -56,9 +40,9 @@ pub record Room (f : Front) (p : Plan) : Type 0 where
   pub line : f.line + p.lines < 2 ^ 64
   pub text : f.place + reach p.says < 2 ^ 64
 
-pub room : (d : List ℕ) (f : Front) (inner : Part) (x y : List ℕ) (k : ℕ) {p : Plan} → length d ≤ 16777216 → Nearness (length d) f inner
+pub room : (d : List ℕ) (f : Front) (x y : List ℕ) (k : ℕ) {p : Plan} → length d ≤ 16777216 → FrontFitness (length d) f
     → p ≡ plan_at f.marks f.depth x y (drop f.place d) k → Room f p
-room d f inner x y k h n e =
+room d f x y k h n e =
     let b = rw (← e) at (plan-bounded f.marks f.depth x y (drop f.place d) k) in
     let l = length-drop f.place d in
     let o = n.place in
@@ -89,17 +73,11 @@ module _ (d : List ℕ) (s : State) (h : length d ≤ 16777216) (e : fit (length
   inner = inner_of s.indents s.depth
 
   pub is-near : near (length d) (front_of s) inner ≡ true
-  unfolding near front_fit
+  unfolding near
   is-near =
-      let f = fitness (length d) s e in
-      rw (
-        le-leb s.place (length d) f.place,
-        lt-ltb 0 s.line f.line_low,
-        le-leb s.line (s.place + 1) f.line-high,
-        f.held,
-        le-leb s.depth 64 f.depth,
-        inner-fit (length d) s.indents s.depth f.opens,
-      )
+      let b = rw (fit_parts (length d) s) at e in
+      let f = and_left (front_fit (length d) (front_of s)) _ b in
+      rw (f, inner-fit (length d) s.indents s.depth (fitness (length d) s e).opens)
 
   -- it refuses by no more than 3
   pub step-number : (values_of (step_of d s).answer).number ≤ 259

@@ -23,7 +23,7 @@ use Rattle.tokenizer_rules.specs.declared.plan.Marks.{Marks}
 use Rattle.tokenizer_rules.specs.declared.plan.Says.{Says}
 use Rattle.tokenizer_rules.specs.declared.plan.Says.TheVariants.{Comment, MapKey, Value, MultilineHint, MultilineValue}
 use Rattle.tokenizer_rules.specs.declared.plan.Plan.{Plan}
-use Rattle.tokenizer_scans.proofs.Quotes.{plain-le, text_le, eq-le, hint-le}
+use Rattle.tokenizer_scans.proofs.Quotes.{plain-le, text_le, eq-le, hint_le}
 use Rattle.tokenizer_scans.proofs.Pieces.{extent-le, line_count-le}
 use Rattle.tokenizer_rules.proofs.PlanCases.{Cases, plan-cases}
 
@@ -85,7 +85,7 @@ module _ (m : Marks) (depth : ℕ) (inner indent rest : List ℕ) (k : ℕ) wher
               let w = drop 3 (b ∷ r) in
               omega (
                 arith,
-                hint-le (b ∷ r) h,
+                hint_le (b ∷ r) h,
                 plain-le 59 w,
                 length-drop 3 (b ∷ r),
                 said-le (λ p. MultilineHint (shifted_by (k + 3) p)) (k + 3) (λ p h. omega arith) Blanks (plain_end 59 w) w,

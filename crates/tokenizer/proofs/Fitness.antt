@@ -1,6 +1,6 @@
 -- What the test for an unfit state tells, and what it takes to pass it.
 use Prim.Native.Nat.{ℕ, zero, suc, ◌+◌, ◌-◌, ◌≤◌, ◌<◌}
-use mathlib.Core.Path.{◌≡◌, refl, ◌∙◌}
+use mathlib.Core.Path.{◌≡◌, refl}
 use mathlib.Core.List.{List}
 use mathlib.Core.Bool.{Bool, true, ◌&&◌, and_assoc, and_comm, and-true}
 use native.Mathlib.Numerals.{add-one}
@@ -18,29 +18,26 @@ use Rattle.tokenizer.specs.Front.{front_of, front_fit}
 use Rattle.tokenizer.specs.declared.state.State.{State}
 use Rattle.tokenizer.specs.declared.front.Front.{Front}
 
--- a fit state of a document of n bytes, test by test
-pub record Fitness (n : ℕ) (s : State) : Type 0 where
-  pub place : s.place ≤ n
-  pub line_low : 0 < s.line
-  pub line-high : s.line ≤ s.place + 1
-  pub held : fit_held n s.held ≡ true
-  pub depth : s.depth ≤ 64
-  pub opens : fit_open n s.indents s.depth ≡ true
+-- a front that fits a document of n bytes, test by test
+pub record FrontFitness (n : ℕ) (f : Front) : Type 0 where
+  pub place : f.place ≤ n
+  pub line_low : 0 < f.line
+  pub line-high : f.line ≤ f.place + 1
+  pub held : fit_held n f.held ≡ true
+  pub depth : f.depth ≤ 64
 
-pub fitness : (n : ℕ) (s : State) → fit n s ≡ true → Fitness n s
-unfolding fit
-fitness n s e =
-    let e₁ = and_right (leb s.place n) _ e in
-    let e₂ = and_right (ltb 0 s.line) _ e₁ in
-    let e₃ = and_right (leb s.line (s.place + 1)) _ e₂ in
-    let e₄ = and_right (fit_held n s.held) _ e₃ in
+pub front-fitness : (n : ℕ) (f : Front) → front_fit n f ≡ true → FrontFitness n f
+unfolding front_fit
+front-fitness n f e =
+    let e₁ = and_right (leb f.place n) _ e in
+    let e₂ = and_right (ltb 0 f.line) _ e₁ in
+    let e₃ = and_right (leb f.line (f.place + 1)) _ e₂ in
     record {
-      place = leb-true s.place n (and_left (leb s.place n) _ e);
-      line_low = ltb-true 0 s.line (and_left (ltb 0 s.line) _ e₁);
-      line-high = leb-true s.line (s.place + 1) (and_left (leb s.line (s.place + 1)) _ e₂);
-      held = and_left (fit_held n s.held) _ e₃;
-      depth = leb-true s.depth 64 (and_left (leb s.depth 64) _ e₄);
-      opens = and_right (leb s.depth 64) _ e₄;
+      place = leb-true f.place n (and_left (leb f.place n) _ e);
+      line_low = ltb-true 0 f.line (and_left (ltb 0 f.line) _ e₁);
+      line-high = leb-true f.line (f.place + 1) (and_left (leb f.line (f.place + 1)) _ e₂);
+      held = and_left (fit_held n f.held) _ e₃;
+      depth = leb-true f.depth 64 (and_right (fit_held n f.held) _ e₃);
     }
 
 leb-less : (l p : ℕ) → leb (l - 1) p ≡ leb l (p + 1)
@@ -59,26 +56,41 @@ pub front_tests : (n : ℕ) (f : Front)
 unfolding front_fit
 front_tests n f = rw (leb-less f.line f.place) (simp and_assoc)
 
-pub front-depth : (n : ℕ) (f : Front) → front_fit n f ≡ true → f.depth ≤ 64
-unfolding front_fit
-front-depth n f e =
-    leb-true f.depth 64
-    (and_right (fit_held n f.held) _ (and_right (leb f.line (f.place + 1)) _ (and_right (ltb 0 f.line) _ (and_right (leb f.place n) _ e))))
+-- a fit state, test by test
+pub record Fitness (n : ℕ) (s : State) : Type 0 where
+  pub place : s.place ≤ n
+  pub line_low : 0 < s.line
+  pub line-high : s.line ≤ s.place + 1
+  pub held : fit_held n s.held ≡ true
+  pub depth : s.depth ≤ 64
+  pub opens : fit_open n s.indents s.depth ≡ true
 
--- where all else fits, the open indentations decide
-pub open-decides : (n : ℕ) (s : State) → s.place ≤ n → 0 < s.line → s.line ≤ s.place + 1 → fit_held n s.held ≡ true → s.depth ≤ 64
-    → fit n s ≡ fit_open n s.indents s.depth
-unfolding fit
-open-decides n s p l h q d = rw (le-leb s.place n p, lt-ltb 0 s.line l, le-leb s.line (s.place + 1) h, q, le-leb s.depth 64 d)
+pub fitness : (n : ℕ) (s : State) → fit n s ≡ true → Fitness n s
+fitness n s e =
+    let b = rw (fit_parts n s) at e in
+    let f = front-fitness n (front_of s) (and_left _ (fit_open n s.indents s.depth) b) in
+    record {
+      place = f.place;
+      line_low = f.line_low;
+      line-high = f.line-high;
+      held = f.held;
+      depth = f.depth;
+      opens = and_right (front_fit n (front_of s)) _ b;
+    }
 
 pub is-fit : (n : ℕ) (s : State) → Fitness n s → fit n s ≡ true
-is-fit n s f = open-decides n s f.place f.line_low f.line-high f.held f.depth ∙ f.opens
+unfolding fit
+is-fit n s f =
+    rw (
+      le-leb s.place n f.place,
+      lt-ltb 0 s.line f.line_low,
+      le-leb s.line (s.place + 1) f.line-high,
+      f.held,
+      le-leb s.depth 64 f.depth,
+      f.opens,
+    )
 
--- a part that fits lies within the document
-pub part-within : (n : ℕ) (p : Part) → fit_part n p ≡ true → (p.start ≤ p.end) × (p.end ≤ n)
-part-within n p e =
-    (leb-true p.start p.end (and_left (leb p.start p.end) _ e), leb-true p.end n (and_right (leb p.start p.end) _ e))
-
+-- a part within the document fits
 pub part-fit : (n : ℕ) (p : Part) → p.start ≤ p.end → p.end ≤ n → fit_part n p ≡ true
 part-fit n p a b = rw (le-leb p.start p.end a, le-leb p.end n b)
 

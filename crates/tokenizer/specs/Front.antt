@@ -12,6 +12,7 @@ use Rattle.tokenizer_rules.specs.declared.plan.Plan.{Plan}
 use Rattle.tokenizer.specs.Step.{bytes_of, no_part, inner_of, indent_of, size_of, indents_after, depth_after, held_after, answer_of, fit_part, fit_held}
 use Rattle.tokenizer.specs.Token.{values_of}
 use Rattle.tokenizer.specs.Said.{said_by}
+use Rattle.tokenizer.specs.declared.said.Said.{Said}
 use Rattle.tokenizer.specs.declared.state.State.{State}
 use Rattle.tokenizer.specs.declared.front.Front.{Front}
 use Rattle.tokenizer.specs.declared.front.Advanced.{Advanced}
@@ -54,9 +55,13 @@ advance_rule d f inner = advance_with d f inner (indent_of f.held f.place (drop 
 unfoldable pub near : ℕ → Front → Part → Bool
 near n f inner = front_fit n f && fit_part n inner
 
+-- what is said, with nothing changed
+abbrev pub unmoved : Said → Front → Advanced
+unmoved said f = record { said = said; front = f; change = Keep; indent = no_part }
+
 -- a refusal that changes nothing
 abbrev pub staying : Front → Refusal → Advanced
-staying f r = record { said = said_by (values_of (Some (Err (error r 0)))); front = f; change = Keep; indent = no_part }
+staying f r = unmoved (said_by (values_of (Some (Err (error r 0))))) f
 
 -- 12, then 15, then the rules
 unfoldable pub advanced_of : List ℕ → Front → Part → Advanced

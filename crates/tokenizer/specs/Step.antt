@@ -1,7 +1,7 @@
 -- Law: document 01, 'Tokenizer': the state, the step over it, and the numbers 12 and 15 of its 'Numbers by the place
 -- where they are checked'.
 use Rattle.std.specs.Prelude.{Option, Some, None, Ok, Err, ℕ, zero, suc, ◌+◌, ◌-◌, max, List, Bool, true, false, cond, ◌&&◌, length, take, drop, get_or, set, replicate, leb, ltb}
-use Rattle.text.specs.Bytes.{shifted_by}
+use Rattle.text.specs.Bytes.{part, shifted_by}
 use Rattle.text.specs.Numbers.{max_document, max_open, error}
 use Rattle.text.specs.declared.refusals.Refusal.{Refusal}
 use Rattle.text.specs.declared.refusals.Refusal.TheVariants.{TooLong, UnfitState}
@@ -35,11 +35,11 @@ abbrev pub bytes_of : List ℕ → Part → List ℕ
 bytes_of d p = take (p.end - p.start) (drop p.start d)
 
 abbrev pub no_part : Part
-no_part = record { start = 0; end = 0 }
+no_part = part 0 0
 
 -- Rule 1: the held indentation, or the blanks at the place; and how many bytes stand between the place and the rest
 abbrev pub indent_of : Option Part → ℕ → List ℕ → Part
-indent_of None place rest = record { start = place; end = place + blanks rest }
+indent_of None place rest = part place (place + blanks rest)
 indent_of (Some p) place rest = p
 
 abbrev pub size_of : Option Part → List ℕ → ℕ

@@ -17,8 +17,9 @@ ghost use Rattle.tokenizer.specs.Step.{
 };
 ghost use Rattle.tokenizer.specs.Token.{values_of};
 ghost use Rattle.tokenizer.specs.Said.{said_by};
-ghost use Rattle.tokenizer.specs.Front.{front_fit, advanced_by, near, staying, advanced_of};
+ghost use Rattle.tokenizer.specs.Front.{front_fit, advanced_by, near, unmoved, staying, advanced_of};
 
+use crate::kind;
 use crate::said::Said;
 use crate::state::State;
 use text::{Dropped, Part, Refusal};
@@ -43,6 +44,20 @@ pub struct Advanced {
     pub indent: Part,
 }
 
+impl Advanced {
+    // What is said, with nothing changed.
+    pub fn unmoved(said: Said, front: Front) -> Advanced
+        ensures { result ≡ unmoved said front }
+    {
+        Advanced {
+            said,
+            front,
+            change: Change::Keep,
+            indent: Part::EMPTY,
+        }
+    }
+}
+
 // Whether p neither ends before it starts nor ends past n bytes.
 pub fn part_fits(p: Part, n: usize) -> bool
     ensures { result ≡ fit_part n p }
@@ -54,10 +69,7 @@ pub fn part_fits(p: Part, n: usize) -> bool
 pub fn held_fits(held: Option<Part>, n: usize) -> bool
     ensures { result ≡ fit_held n held }
 {
-    match held {
-        None => true,
-        Some(p) => part_fits(p, n),
-    }
+    held.is_none_or(|p| part_fits(p, n))
 }
 
 impl Front {
@@ -120,19 +132,19 @@ fn numbered(says: Says, line: usize, place: usize, indent: Part) -> Said
     ensures { result ≡ said_by (values_of (answer_of says line place indent)) }
 {
     match says {
-        Says::End => Said::bare(0, 0),
-        Says::Newline => Said::bare(1, line),
-        Says::Comment(p) => Said::with_text(2, line, shifted(place, p)),
-        Says::Indent => Said::bare(3, line),
-        Says::Outdent => Said::bare(4, line),
-        Says::ListItem => Said::bare(5, line),
-        Says::MapKey(p) => Said::with_text(6, line, shifted(place, p)),
-        Says::Value(p) => Said::with_text(7, line, shifted(place, p)),
-        Says::MultilineHint(p) => Said::with_text(8, line, shifted(place, p)),
+        Says::End => Said::bare(Said::END, 0),
+        Says::Newline => Said::bare(kind::NEWLINE, line),
+        Says::Comment(p) => Said::with_text(kind::COMMENT, line, shifted(place, p)),
+        Says::Indent => Said::bare(kind::INDENT, line),
+        Says::Outdent => Said::bare(kind::OUTDENT, line),
+        Says::ListItem => Said::bare(kind::LIST_ITEM, line),
+        Says::MapKey(p) => Said::with_text(kind::MAP_KEY, line, shifted(place, p)),
+        Says::Value(p) => Said::with_text(kind::VALUE, line, shifted(place, p)),
+        Says::MultilineHint(p) => Said::with_text(kind::MULTILINE_HINT, line, shifted(place, p)),
         Says::MultilineValue(p) => Said {
             from: indent.start,
             to: indent.end,
-            ..Said::with_text(9, line, shifted(place, p))
+            ..Said::with_text(kind::MULTILINE_VALUE, line, shifted(place, p))
         },
         Says::Refused(r) => Said::refused(r, line),
     }
@@ -142,17 +154,9 @@ fn held_after(change: Change, indent: Part) -> Option<Part>
     ensures { result ≡ held_after change indent }
 {
     match change {
-        Change::Keep => None,
-        Change::Open => None,
-        Change::Close => None,
+        Change::Keep | Change::Open | Change::Close => None,
         Change::Hold => Some(indent),
     }
-}
-
-fn one_less(depth: usize) -> usize
-    ensures { result ≡ depth - 1 }
-{
-    if 0 < depth { depth - 1 } else { 0 }
 }
 
 fn depth_after(change: Change, depth: usize) -> usize
@@ -162,38 +166,26 @@ fn depth_after(change: Change, depth: usize) -> usize
     match change {
         Change::Keep => depth,
         Change::Open => depth + 1,
-        Change::Close => one_less(depth),
-        Change::Hold => one_less(depth),
+        Change::Close | Change::Hold => depth.saturating_sub(1),
     }
 }
 
-// The plan of a step at the place: inner is the innermost open indentation, and indent this step's, k bytes of it
-// standing there.
-fn planned(
-    doc: &[u8],
-    place: usize,
-    marks: Marks,
-    depth: usize,
-    inner: Part,
-    indent: Part,
-    k: usize,
-) -> Plan
-    requires place_in_bounds { place ≤ length doc.now }
+// The plan of a step: inner is the innermost open indentation, and i this step's.
+fn planned(doc: &[u8], f: Front, inner: Part, i: Indentation) -> Plan
+    requires place_in_bounds { f.place ≤ length doc.now }
     requires inner_fits { fit_part (length doc.now) inner ≡ true }
-    requires indent_fits { fit_part (length doc.now) indent ≡ true }
-    ensures { result ≡ plan_at marks depth (bytes_of doc.now inner) (bytes_of doc.now indent) (drop place doc.now) k }
+    requires indent_fits { fit_part (length doc.now) i.part ≡ true }
+    ensures { result ≡ plan_at f.marks f.depth (bytes_of doc.now inner) (bytes_of doc.now i.part) (drop f.place doc.now) i.size }
 {
-    let inner_from = inner.start;
-    let inner_to = inner.end;
-    let from = indent.start;
-    let to = indent.end;
+    let marks = f.marks;
+    let part = i.part;
     plan_at(
         marks,
-        depth,
-        &doc[inner_from..inner_to],
-        &doc[from..to],
-        &doc[place..],
-        k,
+        f.depth,
+        &doc[inner.start..inner.end],
+        &doc[part.start..part.end],
+        &doc[f.place..],
+        i.size,
     )
 }
 
@@ -202,12 +194,7 @@ fn planned(
 fn stays(f: Front, refusal: Refusal) -> Advanced
     ensures { result ≡ staying f refusal }
 {
-    Advanced {
-        said: Said::refused(refusal, 0),
-        front: f,
-        change: Change::Keep,
-        indent: Part { start: 0, end: 0 },
-    }
+    Advanced::unmoved(Said::refused(refusal, 0), f)
 }
 
 // Whether what a step uses of a state is fit: all but the open indentations below the innermost.
@@ -256,11 +243,8 @@ pub fn advance(doc: &[u8], f: Front, inner: Part) -> Advanced
     if !is_near(f, inner, doc.len()) {
         return stays(f, Refusal::UnfitState);
     }
-    let place = f.place;
-    let marks = f.marks;
     let held = f.held;
-    let i = indent_at(held, place, &doc[place..]);
-    let indent = i.part;
-    let p = planned(doc, place, marks, f.depth, inner, indent, i.size);
-    carried_out(f, indent, p)
+    let i = indent_at(held, f.place, &doc[f.place..]);
+    let p = planned(doc, f, inner, i);
+    carried_out(f, i.part, p)
 }

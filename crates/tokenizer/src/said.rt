@@ -1,9 +1,10 @@
 // An answer in numbers.
 ghost use Rattle.std.specs.Prelude.{◌≡◌};
 ghost use Rattle.text.specs.Numbers.{number_of};
-ghost use Rattle.tokenizer.specs.Token.{bare, with_text, refusal_number};
+ghost use Rattle.tokenizer.specs.Token.{bare, with_text, token_values, refusal_number};
 ghost use Rattle.tokenizer.specs.Said.{said_by, token_of, answer_by};
 
+use crate::kind;
 use crate::token::{Answer, Token};
 use text::{Part, Refusal, SyntaxError};
 
@@ -27,6 +28,9 @@ impl Said {
 
     pub const UNFIT: usize = 271;
 
+    // What a refusal's number has more.
+    pub const REFUSED: usize = 256;
+
     // A number and a line, with no text.
     pub fn bare(number: usize, line: usize) -> Said
         ensures { result ≡ said_by (bare number line) }
@@ -42,11 +46,11 @@ impl Said {
         }
     }
 
-    // A refusal: 256 and its number, which is above the kinds.
+    // A refusal: its number is above the kinds.
     pub fn refused(refusal: Refusal, line: usize) -> Said
         ensures { result ≡ said_by (bare (refusal_number (number_of refusal)) line) }
     {
-        Said::bare(256 + usize::from(refusal), line)
+        Said::bare(Said::REFUSED + usize::from(refusal), line)
     }
 
     pub(crate) fn with_text(number: usize, line: usize, p: Part) -> Said
@@ -74,15 +78,15 @@ impl Said {
             end: self.to,
         };
         match self.number {
-            1 => Token::Newline(line),
-            2 => Token::Comment(line, p),
-            3 => Token::Indent(line),
-            4 => Token::Outdent(line, self.opened),
-            5 => Token::ListItem(line),
-            6 => Token::MapKey(line, p),
-            7 => Token::Value(line, p),
-            8 => Token::MultilineHint(line, p),
-            9 => Token::MultilineValue(line, indent, p),
+            kind::NEWLINE => Token::Newline(line),
+            kind::COMMENT => Token::Comment(line, p),
+            kind::INDENT => Token::Indent(line),
+            kind::OUTDENT => Token::Outdent(line, self.opened),
+            kind::LIST_ITEM => Token::ListItem(line),
+            kind::MAP_KEY => Token::MapKey(line, p),
+            kind::VALUE => Token::Value(line, p),
+            kind::MULTILINE_HINT => Token::MultilineHint(line, p),
+            kind::MULTILINE_VALUE => Token::MultilineValue(line, indent, p),
             _ => Token::NoValue(line),
         }
     }
@@ -95,13 +99,40 @@ impl Said {
         if self.number == Said::END {
             return None;
         }
-        if self.number < 256 {
+        if self.number < Said::REFUSED {
             return Some(Ok(self.token()));
         }
-        let refusal = Refusal::try_from(self.number - 256).unwrap_or(Refusal::UnfitState);
+        let refusal = Refusal::try_from(self.number - Said::REFUSED).unwrap_or(Refusal::UnfitState);
         Some(Err(SyntaxError {
             refusal,
             line: self.line,
         }))
+    }
+}
+
+impl From<Token> for Said {
+    ghost from_gives = { λ t s. s ≡ said_by (token_values t) };
+
+    #[tactic(auto, unfolding(crate::specs::Token::token_values))]
+    fn from(t: Token) -> Said {
+        match t {
+            Token::Newline(line) => Said::bare(kind::NEWLINE, line),
+            Token::Comment(line, p) => Said::with_text(kind::COMMENT, line, p),
+            Token::Indent(line) => Said::bare(kind::INDENT, line),
+            Token::Outdent(line, opened) => Said {
+                opened,
+                ..Said::bare(kind::OUTDENT, line)
+            },
+            Token::ListItem(line) => Said::bare(kind::LIST_ITEM, line),
+            Token::MapKey(line, p) => Said::with_text(kind::MAP_KEY, line, p),
+            Token::Value(line, p) => Said::with_text(kind::VALUE, line, p),
+            Token::MultilineHint(line, p) => Said::with_text(kind::MULTILINE_HINT, line, p),
+            Token::MultilineValue(line, indent, p) => Said {
+                from: indent.start,
+                to: indent.end,
+                ..Said::with_text(kind::MULTILINE_VALUE, line, p)
+            },
+            Token::NoValue(line) => Said::bare(kind::NO_VALUE, line),
+        }
     }
 }

@@ -1,5 +1,5 @@
 // The state by value, and the step over it.
-ghost use Rattle.std.specs.Prelude.{◌≡◌, ◌≤◌, Some, Err};
+ghost use Rattle.std.specs.Prelude.{◌≡◌, ◌≤◌, Some, None, Err};
 ghost use Rattle.text.specs.Numbers.{max_open, error};
 ghost use Rattle.tokenizer.specs.Step.{inner_of, depth_after, indents_after, fit, step_of, fresh};
 ghost use Rattle.tokenizer.specs.Front.{front_of, state_by};
@@ -48,6 +48,16 @@ impl<S> Step<S> {
         let answer = Some(Err(SyntaxError { refusal, line: 0 }));
         Step { answer, state }
     }
+
+    // The end, which gives the very state back.
+    pub fn ended(state: S) -> Step<S>
+        ensures { result ≡ record { answer = None; state = state } }
+    {
+        Step {
+            answer: None,
+            state,
+        }
+    }
 }
 
 impl State {
@@ -70,7 +80,7 @@ impl State {
                 multiline: false,
             },
             held: None,
-            indents: [Part { start: 0, end: 0 }; 64],
+            indents: [Part::EMPTY; 64],
             depth: 0,
         }
     }
@@ -106,7 +116,7 @@ impl State {
         ensures { result ≡ inner_of self.indents self.depth }
     {
         if self.depth == 0 {
-            return Part { start: 0, end: 0 };
+            return Part::EMPTY;
         }
         self.indents[self.depth - 1]
     }

@@ -24,7 +24,7 @@ use Rattle.tokenizer_rules.specs.declared.plan.Says.{Says}
 use Rattle.tokenizer_rules.specs.declared.plan.Says.TheVariants as says
 use Rattle.tokenizer.specs.declared.state.State.{State}
 use Rattle.tokenizer.proofs.Bounds.{rest-size}
-use Rattle.tokenizer_scans.proofs.Quotes.{hint-le}
+use Rattle.tokenizer_scans.proofs.Quotes.{hint_le}
 use Rattle.tokenizer_claims.specs.Claims.{Text, TokenFits}
 use Rattle.tokenizer_claims.proofs.Texts.{text-trimmed, text-take, text-drop, indentation-text, blanks-le}
 use Rattle.tokenizer_claims.proofs.Sound.{rest_of, indent_at, plan_of, answer_at, StepCases, step-cases, Sound, indent-sound}
@@ -77,7 +77,7 @@ module _ (d : List ℕ) (s : State) (o : Sound d s) where
           quotes = λ c e v h t. omega arith;
           hint = λ c e v h t.
               let w = drop 3 (b ∷ r) in
-              said-vouched _ Blanks (plain_end 59 w) w (λ p. text_at (k + 3) w p (omega (arith, hint-le (b ∷ r) h)) (after 3));
+              said-vouched _ Blanks (plain_end 59 w) w (λ p. text_at (k + 3) w p (omega (arith, hint_le (b ∷ r) h)) (after 3));
           plain = λ c e v h. said-vouched _ Blanks (text_end 59 (b ∷ r)) (b ∷ r) (λ p. text_at k (b ∷ r) p (omega arith) q);
         };
   }

@@ -4,5 +4,5 @@
 mod rows;
 mod tokens;
 
-pub use rows::{bare_row, said_row, token_row};
+pub use rows::{said_row, token_row};
 pub use tokens::{said_in, token_in, word};

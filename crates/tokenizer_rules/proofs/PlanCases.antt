@@ -3,7 +3,7 @@
 use Prim.Native.Nat.{ℕ, ◌+◌, ◌≤◌, ◌<◌}
 use mathlib.Core.Path.{◌≡◌, refl, sym, ◌∙◌}
 use mathlib.Core.List.{List, [], ◌∷◌}
-use mathlib.Core.Bool.{Bool, true, false, cond, not, ◌&&◌}
+use mathlib.Core.Bool.{true, false, cond}
 use lib.ListN.{take, drop}
 use lib.Dec.{eqb, ltb}
 use borrow.Author.Tests.{ltb-true, ltb-false}
@@ -12,17 +12,13 @@ use Rattle.text.specs.declared.refusals.Refusal.TheVariants.{CharactersAfterQuot
 use Rattle.text.specs.declared.trimming.Dropped.TheVariants.{Blanks}
 use Rattle.text.proofs.Cases.{on-cond}
 use Rattle.tokenizer_scans.specs.Scans.{relation_of, plain_end, checked_of, begins_hint}
-use Rattle.tokenizer_rules.specs.Plan.{keeps, said, with_value, plan_newline, plan_end, plan_comment, plan_item, plan_key, plan_plain, hint_marks, plan_hint, plan_value, plan_entry, plan_multiline, plan_open, plan_outdent, on_relation, cleared, plan_indented, plan_on, plan_at}
+use Rattle.tokenizer_rules.specs.Plan.{keeps, said, with_value, plan_newline, plan_end, begins_comment, plan_comment, plan_item, plan_key, plan_plain, hint_marks, plan_hint, plan_value, plan_entry, plan_multiline, plan_open, plan_outdent, on_relation, cleared, plan_indented, plan_on, plan_at}
 use Rattle.tokenizer_scans.specs.declared.readers.Relation.{Relation}
 use Rattle.tokenizer_scans.specs.declared.readers.Relation.TheVariants.{Equal, Deeper, Other}
 use Rattle.tokenizer_rules.specs.declared.plan.Marks.{Marks}
 use Rattle.tokenizer_rules.specs.declared.plan.Says.TheVariants.{End, Indent, Outdent, MultilineHint, Refused}
 use Rattle.tokenizer_rules.specs.declared.plan.Change.TheVariants.{Open, Close}
 use Rattle.tokenizer_rules.specs.declared.plan.Plan.{Plan}
-
--- whether a byte that is no break begins a comment
-abbrev pub comments : Marks → ℕ → Bool
-comments m b = eqb b 59 && not (m.indent && m.multiline)
 
 -- leaves that the rules write out
 abbrev pub plan_close : Marks → Plan
@@ -39,7 +35,7 @@ plan_hinted m k r =
 -- the first byte begins neither a break nor a comment
 pub record Content (m : Marks) (b : ℕ) : Type 0 where
   pub no-break : is_break b ≡ false
-  pub no-comment : comments m b ≡ false
+  pub no-comment : begins_comment m b ≡ false
 
 -- the marks with which rule 6 is reached: in a line, or at the start of one whose indentation is the innermost one
 pub data Entry (m : Marks) (inner indent : List ℕ) : Marks → Type 0 where
@@ -49,7 +45,7 @@ pub data Entry (m : Marks) (inner indent : List ℕ) : Marks → Type 0 where
 -- What is to be shown of each leaf where b is the first byte after the indentation, and r stands after it.
 pub record Leaves (m : Marks) (depth : ℕ) (inner indent rest : List ℕ) (k b : ℕ) (r : List ℕ) (G : Plan → Type 0) : Type 0 where
   pub newline : is_break b ≡ true → G (plan_newline m k (b ∷ r))
-  pub comment : is_break b ≡ false → comments m b ≡ true → G (plan_comment m k r)
+  pub comment : is_break b ≡ false → begins_comment m b ≡ true → G (plan_comment m k r)
   pub multiline : Content m b → m.indent ≡ true → relation_of inner indent ≡ Deeper → m.multiline ≡ true
       → G (plan_multiline (cleared m) indent rest)
   pub opens : Content m b → m.indent ≡ true → relation_of inner indent ≡ Deeper → m.multiline ≡ false → depth < 64
@@ -115,7 +111,7 @@ module _ (m : Marks) (depth : ℕ) (inner indent rest : List ℕ) (k : ℕ) (G :
     unfolding plan_on
     line-cases =
         on-cond G (is_break b) l.newline
-        (λ n. on-cond G (comments m b) (l.comment n) (λ s. content (record { no-break = n; no-comment = s })))
+        (λ n. on-cond G (begins_comment m b) (l.comment n) (λ s. content (record { no-break = n; no-comment = s })))
       where
         content : Content m b → G (cond m.indent (plan_indented m depth inner indent rest k b (b ∷ r)) (plan_entry m k b (b ∷ r)))
         content c = on-cond G m.indent (indented-cases c) (λ i. entry-cases c (later i))

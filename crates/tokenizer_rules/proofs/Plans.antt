@@ -3,10 +3,9 @@
 use Prim.Native.Nat.{ℕ, ◌+◌, ◌≤◌, ◌<◌}
 use mathlib.Core.Path.{◌≡◌, refl, sym, ◌∙◌}
 use mathlib.Core.List.{List, [], ◌∷◌}
-use mathlib.Core.Bool.{true, false, cond, not, ◌&&◌}
+use mathlib.Core.Bool.{true, false, cond}
 use native.Mathlib.Nat.{min-le_right}
 use native.Mathlib.Omega.{arith}
-use lib.Dec.{eqb}
 use lib.ListN.{length, take, drop, length-take, length-drop}
 use lib.Seq.{length-take-le}
 use Rattle.std.specs.Prelude.{Option, Some, None, MatchOption, option_map, slice_get}
@@ -19,15 +18,15 @@ use Rattle.text.specs.declared.trimming.Dropped.{Dropped}
 use Rattle.text.proofs.Cases.{by_bool}
 use Rattle.text.proofs.Front.{break-le, break-pos}
 use Rattle.text.proofs.Trimmed.{trimmed-le}
-use Rattle.tokenizer_scans.specs.Scans.{checked_of, plain_end, text_end, begins_hint, eq_size, lines_of}
+use Rattle.tokenizer_scans.specs.Scans.{checked_of, plain_end, text_end, eq_size, lines_of}
 use Rattle.tokenizer_rules.specs.declared.plan.Marks.{Marks}
 use Rattle.tokenizer_rules.specs.declared.plan.Says.{Says}
 use Rattle.tokenizer_rules.specs.declared.plan.Says.TheVariants.{MultilineHint, Refused}
 use Rattle.tokenizer_rules.specs.declared.plan.Plan.{Plan}
 use Rattle.text.specs.declared.refusals.Refusal.TheVariants.{InvalidUtf8}
-use Rattle.tokenizer_rules.specs.Plan.{keeps, said, hint_marks, plan_on, plan_end, plan_newline, plan_comment, plan_indented, plan_entry}
+use Rattle.tokenizer_rules.specs.Plan.{keeps, said, hint_marks, plan_on, plan_end, plan_newline, begins_comment, plan_comment, plan_indented, plan_entry}
 use Rattle.tokenizer_scans.specs.declared.readers.Lines.{Lines}
-use Rattle.tokenizer_scans.proofs.Quotes.{plain-le, text_le, eq-le, hint-le}
+use Rattle.tokenizer_scans.proofs.Quotes.{plain-le, text_le, eq-le}
 use Rattle.tokenizer_scans.proofs.Pieces.{extent-le}
 
 -- What is passed and said lies within the text
@@ -44,9 +43,6 @@ break_le s = break-le s
 
 pub line_le : (s : List ℕ) → line_end s ≤ length s
 line_le s = prefix_len-le-length not_break s
-
-pub hint_le : (s : List ℕ) → begins_hint s ≡ true → 3 ≤ length s
-hint_le = hint-le
 
 -- a text that was read
 pub part_le : (which : Dropped) (n : ℕ) (s : List ℕ) {p : Part} → checked_of which (take n s) ≡ Some p → (p.start ≤ length s) × (p.end ≤ length s)
@@ -120,7 +116,7 @@ module _ (m : Marks) (depth : ℕ) (inner indent rest : List ℕ) (k : ℕ) wher
   -- no break, and a first byte
   pub at_byte : (s : List ℕ) (b : ℕ) → break_size s ≤ 0 → Some b ≡ slice_get s 0
       → plan_on m depth inner indent rest k s
-      ≡ cond (eqb b 59 && not (m.indent && m.multiline)) (plan_comment m k (drop 1 s))
+      ≡ cond (begins_comment m b) (plan_comment m k (drop 1 s))
       (cond m.indent (plan_indented m depth inner indent rest k b s) (plan_entry m k b s))
   unfolding plan_on
   at_byte [] b h e = cc

@@ -1,5 +1,5 @@
 // What one step does, counted from its place: the plan knows neither places nor lines.
-ghost use Rattle.std.specs.Prelude.{◌≡◌, ◌<◌, ◌≤◌, cond, length, drop};
+ghost use Rattle.std.specs.Prelude.{◌≡◌, true, false, ◌<◌, ◌≤◌, cond, length, drop};
 ghost use Rattle.tokenizer_rules.specs.Cursor.{text_of};
 ghost use Rattle.tokenizer_scans.specs.Scans.{relation_of};
 ghost use Rattle.tokenizer_scans.specs.declared.readers.Relation.TheVariants.{Equal};
@@ -31,6 +31,16 @@ impl Marks {
             indent: false,
             multiline: false,
             ..self
+        }
+    }
+
+    // The multiline mark is cleared, and the next step looks at the indentation.
+    fn expecting_indent(self) -> Marks
+        ensures { result ≡ record { indent = true; value = self.value; multiline = false } }
+    {
+        Marks {
+            indent: true,
+            ..self.cleared()
         }
     }
 }
@@ -153,7 +163,7 @@ fn consume_key(m: Marks, s: &Cursor) -> Plan
 }
 
 // A value that begins with three quotes is a hint. The value mark is cleared already.
-#[tactic(auto, using(crate::proofs::Plans::text_in, crate::proofs::Plans::hint_le, crate::proofs::Plans::told), unfolding(crate::specs::Plan::plan_value, crate::specs::Plan::plan_plain))]
+#[tactic(auto, using(crate::proofs::Plans::text_in, tokenizer_scans::proofs::Quotes::hint_le, crate::proofs::Plans::told), unfolding(crate::specs::Plan::plan_value, crate::specs::Plan::plan_plain))]
 fn consume_value(m: Marks, s: &Cursor) -> Plan
     ensures { result ≡ plan_value m s.now.at (text_of s.now) }
 {
@@ -193,13 +203,13 @@ fn consume_multiline(m: Marks, indent: &[u8], rest: &[u8]) -> Plan
     let v = multiline_len(indent, rest);
     let n = v.len;
     let text = checked(Dropped::BlanksAndBreaks, &rest[..n]);
-    let marks = Marks {
-        indent: true,
-        ..m.cleared()
-    };
     Plan {
         lines: v.count,
-        ..kept(text.map_or(UNREADABLE, Says::MultilineValue), n, marks)
+        ..kept(
+            text.map_or(UNREADABLE, Says::MultilineValue),
+            n,
+            m.expecting_indent(),
+        )
     }
 }
 
@@ -227,13 +237,9 @@ fn open(m: Marks, depth: usize, s: &Cursor) -> Plan
 fn outdent(m: Marks, k: usize) -> Plan
     ensures { result ≡ plan_outdent m k }
 {
-    let marks = Marks {
-        indent: true,
-        ..m.cleared()
-    };
     Plan {
         change: Change::Hold,
-        ..kept(Says::Outdent, k, marks)
+        ..kept(Says::Outdent, k, m.expecting_indent())
     }
 }
 

@@ -83,11 +83,6 @@ pub text_le : (also : ℕ) (s : List ℕ) → text_end also s ≤ length s
 unfolding text_end
 text_le also s = omega (arith, quotes_le s, plain-le also (drop (quotes_end s) s), length-drop (quotes_end s) s)
 
-pub eq-one : (s : List ℕ) → eq_size s ≤ 1
-unfolding eq_size
-eq-one [] = omega arith
-eq-one (b ∷ r) = on-cond (λ n. n ≤ 1) (eqb b 61) (λ _. omega arith) (λ _. omega arith)
-
 eq-length : (s : List ℕ) → eq_size s ≤ length s
 unfolding eq_size
 eq-length [] = omega arith
@@ -97,6 +92,6 @@ pub eq-le : (n : ℕ) (s : List ℕ) → eq_size (drop n s) ≤ length s - n
 eq-le n s = omega (arith, eq-length (drop n s), length-drop n s)
 
 -- three quotes are three bytes
-pub hint-le : (s : List ℕ) → begins_hint s ≡ true → 3 ≤ length s
+pub hint_le : (s : List ℕ) → begins_hint s ≡ true → 3 ≤ length s
 unfolding begins_hint
-hint-le s e = by_bool (ltb (length s) 3) (λ t. absurd (clash (sym e ∙ short _ s (ltb-true _ _ t)))) (ltb-false _ _)
+hint_le s e = by_bool (ltb (length s) 3) (λ t. absurd (clash (sym e ∙ short _ s (ltb-true _ _ t)))) (ltb-false _ _)

@@ -105,11 +105,7 @@ pub fn text_len(s: &[u8], also: u8) -> usize
 pub fn checked(which: Dropped, s: &[u8]) -> Option<Part>
     ensures { result ≡ checked_of which s.now }
 {
-    if utf8::is_utf8(s) {
-        Some(text::trim(which, s))
-    } else {
-        None
-    }
+    utf8::is_utf8(s).then(|| text::trim(which, s))
 }
 
 // Whether s begins with three quotes.
@@ -120,7 +116,7 @@ pub fn begins_hint(s: &[u8]) -> bool
     text::starts_with(s, b"\"\"\"")
 }
 
-// 1 where s begins with `=`, else 0.
+// 1 where s begins with `=`, else 0: a length, which the caller adds to a place.
 #[tactic(auto, using(crate::proofs::Quotes::read, crate::proofs::Quotes::eq_first))]
 pub fn eq_size(s: &[u8]) -> usize
     ensures { result ≡ eq_size s.now }

@@ -1,4 +1,5 @@
 -- The words of a readable state, copied as they are but for what is held, are those of the state that is read from them.
+use Rattle.text.specs.Bytes.{part}
 use Rattle.text.specs.declared.bytes.Part.{Part}
 use Rattle.std.specs.Prelude.{Option, Some, None, map}
 use Prim.Native.Nat.{ℕ, zero, suc, ◌+◌, ◌*◌, ◌≤◌, ◌<◌}
@@ -25,7 +26,7 @@ use Rattle.tokenizer_words.proofs.Storing.{has-137}
 
 -- the ith slot, by its two words
 abbrev pub slot : List ℕ → ℕ → Part
-slot w i = record { start = get_or w (9 + 2 * i) 0; end = get_or w (10 + 2 * i) 0 }
+slot w i = part (get_or w (9 + 2 * i) 0) (get_or w (10 + 2 * i) 0)
 
 pub slot_at : (w : List ℕ) (i : ℕ) → i < 64 → slot w i ≡ get_or (state_in w).indents i no_part
 unfolding state_in

@@ -8,6 +8,7 @@ use native.Mathlib.Omega.{arith}
 use lib.Dec.{eqb}
 use lib.ListN.{length, take, drop, get_or, set}
 use lib.Seq.{get_or-drop, take-append-add, drop-append-add}
+use Rattle.text.specs.Bytes.{part}
 use Rattle.text.specs.declared.bytes.Part.{Part}
 use Rattle.tokenizer.specs.Step.{no_part}
 use Rattle.tokenizer.specs.declared.state.State.{State}
@@ -15,7 +16,7 @@ use Rattle.tokenizer_words.specs.Words.{pasted, flag, held_words, part_words, fr
 use Rattle.tokenizer_words.proofs.Slots.{parts-length, held_depth}
 
 -- the kth of n slots
-pub part_at : (n : ℕ) (v : List ℕ) (k : ℕ) → k < n → get_or (parts_in n v) k no_part ≡ record { start = get_or v (2 * k) 0; end = get_or v (2 * k + 1) 0 }
+pub part_at : (n : ℕ) (v : List ℕ) (k : ℕ) → k < n → get_or (parts_in n v) k no_part ≡ part (get_or v (2 * k) 0) (get_or v (2 * k + 1) 0)
 unfolding parts_in
 part_at zero v k h = absurd (omega arith)
 part_at (suc n) v zero h = refl

@@ -3,6 +3,7 @@
 -- open indentations, and the start and end of each of the 64 slots. 137 words. What a step leaves in them in place is
 -- intermediate: proofs/Standing shows that it is the words of the law's step.
 use Rattle.std.specs.Prelude.{Option, Some, None, ℕ, zero, suc, ◌+◌, ◌*◌, List, [], ◌∷◌, ◌++◌, Bool, true, false, cond, ◌&&◌, eqb, leb, length, get_or, take, drop}
+use Rattle.text.specs.Bytes.{part}
 use Rattle.text.specs.Numbers.{max_open}
 use Rattle.text.specs.declared.bytes.Part.{Part}
 use Rattle.tokenizer.specs.declared.state.State.{State}
@@ -51,11 +52,11 @@ stored_in s w = cond (leb tokenizer_size (length w)) (words_of s ++ drop tokeniz
 -- the parts in 2n words
 unfoldable pub parts_in : ℕ → List ℕ → List Part
 parts_in zero w = []
-parts_in (suc n) w = record { start = get_or w 0 0; end = get_or w 1 0 } ∷ parts_in n (drop 2 w)
+parts_in (suc n) w = part (get_or w 0 0) (get_or w 1 0) ∷ parts_in n (drop 2 w)
 
 -- what is held, by its three words
 abbrev pub held_by : ℕ → ℕ → ℕ → Option Part
-held_by n a e = cond (eqb n 1) (Some (record { start = a; end = e })) None
+held_by n a e = cond (eqb n 1) (Some (part a e)) None
 
 -- the state in words
 unfoldable pub state_in : List ℕ → State

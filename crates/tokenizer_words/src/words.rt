@@ -36,11 +36,7 @@ pub fn is_readable(w: &[usize]) -> bool
 pub fn held_by(held: usize, start: usize, end: usize) -> Option<Part>
     ensures { result ≡ held_by held start end }
 {
-    if held == 1 {
-        Some(Part { start, end })
-    } else {
-        None
-    }
+    (held == 1).then_some(Part { start, end })
 }
 
 // The state in the words but for the slots; a word that they lack is 0.

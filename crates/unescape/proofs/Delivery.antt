@@ -6,14 +6,14 @@ use native.Mathlib.Omega.{arith}
 use lib.ListN.{length}
 use borrow.Author.Tests.{le-leb, lt-leb}
 use Rattle.std.specs.Prelude.{Result, Ok, Err}
+use Rattle.text.specs.Numbers.{error}
 use Rattle.text.specs.declared.refusals.Refusal.TheVariants.{ShortBuffer}
 use Rattle.unescape_pieces.specs.Meaning.{Meaning, part, bytes, refused}
 use Rattle.unescape_pieces.specs.Cursor.{meaning_of, Shows}
 use Rattle.unescape_pieces.specs.declared.fault.Fault.{Fault}
 use Rattle.unescape_pieces.specs.declared.cursor.Cursor.{Cursor}
 use Rattle.unescape_pieces.proofs.Ends.{Ends, pieces_end}
-use Rattle.unescape_source.specs.Source.{error}
-use Rattle.unescape.specs.Walk.{refusal, faulty, measured_of, WrittenFits, buffer_after}
+use Rattle.unescape.specs.Walk.{refusal, faulty, measured_of, buffer_after}
 use Rattle.unescape.specs.Unescape.{Unescaped, kept_buffer, delivered}
 use Rattle.unescape.specs.declared.answer.Answer.{Answer}
 use Rattle.unescape.specs.declared.answer.Answer.TheVariants.{Written}
@@ -28,11 +28,6 @@ module _ (k from line : ℕ) (o : List ℕ) where
   too_short (part a e) x q h = absurd x
   too_short {n} (bytes w) x q h = let y : n ≡ length w = cc in rw (lt-leb (length w) (length o) (omega arith))
   too_short (refused f) x q h = absurd cc
-
-  enough : {n : ℕ} (m : Meaning) → Ends k m → Ok n ≡ measured_of m → n ≤ length o → WrittenFits m (length o)
-  enough (part a e) x q h = x
-  enough {n} (bytes w) x q h = let y : n ≡ length w = cc in omega arith
-  enough (refused f) x q h = absurd cc
 
   wrote : {n : ℕ} (m : Meaning) → Ends k m → Ok n ≡ measured_of m → n ≤ length o
       → delivered m from line o ≡ record { answer = Ok (Written n); buffer = buffer_after m o }
@@ -70,9 +65,6 @@ module _ (c : Cursor) (o : List ℕ) (from line : ℕ) where
 
   pub short-answered : {k : ℕ} → Ok k ≡ measured_of (meaning_of c) → length o < k → Answered result (Err (refusal (error ShortBuffer line))) o
   short-answered r h = promised (too_short (length c.text.now) from line o (meaning_of c) ends r h)
-
-  pub text-fits : {k : ℕ} → Ok k ≡ measured_of (meaning_of c) → k ≤ length o → WrittenFits (meaning_of c) (length o)
-  text-fits r h = enough (length c.text.now) from line o (meaning_of c) ends r h
 
   pub text-answered : {k : ℕ} → Ok k ≡ measured_of (meaning_of c) → k ≤ length o → Answered result (Ok (Written k)) (buffer_after (meaning_of c) o)
   text-answered r h = promised (wrote (length c.text.now) from line o (meaning_of c) ends r h)

@@ -1,6 +1,7 @@
 -- Law: document 01, 'Unescaping' and 'Numbers by the place where they are checked': a token of a document with a lent
 -- buffer. 12 and 13 where it may not be read (unescape_source/specs/Source), then 8 to 11, then 14.
 use Rattle.std.specs.Prelude.{ℕ, ◌+◌, List, [], ◌++◌, cond, leb, length, drop, Result, Ok, Err}
+use Rattle.text.specs.Numbers.{error}
 use Rattle.text.specs.declared.bytes.Part.{Part}
 use Rattle.text.specs.declared.refusals.Refusal.{Refusal}
 use Rattle.text.specs.declared.refusals.Refusal.TheVariants.{ShortBuffer}
@@ -9,7 +10,7 @@ use Rattle.tokenizer.specs.Token.{line_of}
 use Rattle.tokenizer.specs.Step.{bytes_of, no_part}
 use Rattle.tokenizer.specs.declared.token.Token.{Token}
 use Rattle.unescape_pieces.specs.Meaning.{Meaning, part, bytes, refused, refusal_of, shown_from}
-use Rattle.unescape_source.specs.Source.{meaning_in, error, source_in}
+use Rattle.unescape_source.specs.Source.{meaning_in, source_in}
 use Rattle.unescape_source.specs.declared.source.Source.{Source}
 use Rattle.unescape.specs.declared.answer.Answer.{Answer}
 use Rattle.unescape.specs.declared.answer.Answer.TheVariants.{Plain, Written}

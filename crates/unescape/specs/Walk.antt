@@ -1,10 +1,10 @@
 -- Intermediate: the walks over a text's pieces, what is measured of a meaning and a buffer that it is written into.
 -- proofs/Delivery (and proofs/Ruling for the plain part) show that they come to what the law delivers.
-use Rattle.std.specs.Prelude.{ℕ, ◌-◌, ◌≤◌, List, [], ◌++◌, length, take, drop, Result, Ok, Err}
+use Rattle.std.specs.Prelude.{ℕ, ◌≤◌, List, [], ◌++◌, length, drop, Result, Ok, Err}
+use Rattle.text.specs.Numbers.{error}
 use Rattle.text.specs.declared.refusals.SyntaxError.{SyntaxError}
-use Rattle.tokenizer.specs.Step.{no_part}
+use Rattle.tokenizer.specs.Step.{bytes_of, no_part}
 use Rattle.unescape_pieces.specs.Meaning.{Meaning, part, bytes, refused, refusal_of, shown_from}
-use Rattle.unescape_source.specs.Source.{error}
 use Rattle.unescape.specs.declared.answer.Error.{Error}
 use Rattle.unescape_pieces.specs.declared.fault.Fault.{Fault}
 use Rattle.unescape_pieces.specs.declared.fault.Fault.TheVariants.{UnclosedQuotes}
@@ -13,7 +13,7 @@ use Rattle.unescape_pieces.specs.declared.start.Start.TheVariants.{Plain, Pieces
 
 -- the bytes of the plain part, else none
 abbrev pub plain_by : Start → List ℕ → List ℕ
-plain_by (Plain p) s = take (p.end - p.start) (drop p.start s)
+plain_by (Plain p) s = bytes_of s p
 plain_by (Pieces n spot) s = []
 
 -- a refusal that shows no part

@@ -11,7 +11,8 @@ pub enum Answer {
     Written(usize),
 }
 
-// A refusal with its line and, for an invalid escape code, the part that its message shows; else the empty part at 0.
+// A refusal with its line and, for an invalid escape code, the part that its message shows; else the empty part at 0,
+// as the law and the words of an answer have it.
 #[derive(Clone, Copy)]
 pub struct Error {
     pub error: SyntaxError,
@@ -24,7 +25,7 @@ impl From<SyntaxError> for Error {
     fn from(error: SyntaxError) -> Error {
         Error {
             error,
-            shown: Part { start: 0, end: 0 },
+            shown: Part::EMPTY,
         }
     }
 }

@@ -4,8 +4,7 @@ ghost use Rattle.unescape.specs.Texts.{style_of, unescape_text_of};
 
 use crate::answer::{Answer, Error};
 use crate::tokens::deliver;
-use text::{Refusal, SyntaxError};
-use tokenizer::State;
+use tokenizer::{kind, within_limit};
 use unescape_pieces::Style;
 
 // How the text of a token of a kind is read: a key or a value, a multiline value, and any other. The kind is a number,
@@ -15,8 +14,8 @@ pub fn style_of(kind: usize) -> Style
     ensures { result ≡ style_of kind }
 {
     match kind {
-        6 | 7 => Style::Entry,
-        9 => Style::Block,
+        kind::MAP_KEY | kind::VALUE => Style::Entry,
+        kind::MULTILINE_VALUE => Style::Block,
         _ => Style::AsIs,
     }
 }
@@ -35,11 +34,7 @@ pub fn unescape_text(
     ensures value { result ≡ (unescape_text_of style text.now indent.now line out.old).answer }
     ensures out_after { out.new ≡ (unescape_text_of style text.now indent.now line out.old).buffer }
 {
-    if (State::MAX_DOCUMENT < text.len()) | (State::MAX_DOCUMENT < indent.len()) {
-        return Err(Error::from(SyntaxError {
-            refusal: Refusal::TooLong,
-            line: 0,
-        }));
-    }
+    within_limit(text)?;
+    within_limit(indent)?;
     deliver(style, text, indent, 0, line, out)
 }

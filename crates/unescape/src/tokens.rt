@@ -54,6 +54,7 @@ fn rewrite(cursor: Cursor, from: usize, line: usize, out: &mut [u8]) -> Result<A
     ensures value { result ≡ (delivered (meaning_of cursor.entry) from line out.old).answer }
     ensures out_after { out.new ≡ (delivered (meaning_of cursor.entry) from line out.old).buffer }
 {
+    // By `map_err` a closure would have to repeat the bound that `refused` asks.
     let n = match measure(cursor) {
         Ok(n) => n,
         Err(fault) => return Err(refused(fault, from, line)),

@@ -21,7 +21,7 @@ pub(crate) fn measure(cursor: Cursor) -> Result<usize, Fault>
 }
 
 // The bytes of s, put over the first ones of out. By `copy_from_slice` the library would need memmove, and it needs
-// memcpy and memset alone.
+// memcpy and memset alone; by `zip` over `iter_mut`, tried, the proof did not close.
 #[tactic(auto, using(crate::proofs::Filling::copied))]
 fn copy(s: &[u8], out: &mut [u8])
     requires { length s.now ≤ length out.old }
@@ -39,6 +39,7 @@ pub(crate) fn write(cursor: Cursor, out: &mut [u8])
 {
     let mut len = 0;
     for piece in cursor {
+        // Never so: what means nothing has no length that fits.
         let Ok(found) = piece else {
             return;
         };

@@ -38,8 +38,6 @@ use Rattle.unescape_pieces.specs.Meaning.{
   brace,
   closed,
   quoted,
-  all_literal,
-  inside,
   simply_quoted,
   entry_meaning,
   on_first,
@@ -145,7 +143,7 @@ last-quote : (s : List ℕ) → simply_quoted s ≡ true → get_or s (length s 
 unfolding simply_quoted
 last-quote s q =
     let k = and_right (eqb (get_or s 0 0) 34) _ (and_right (leb 2 (length s)) _ q) in
-    eqb-true (get_or s (length s - 1) 0) 34 (and_left _ (all_literal (inside s)) k)
+    eqb-true (get_or s (length s - 1) 0) 34 (and_left _ _ k)
 
 -- the part between the quotes is what stands before the last one
 between : (r : List ℕ) → simply_quoted (34 ∷ r) ≡ true → utf8 r ≡ true → utf8 (take (length r - 1) r) ≡ true

@@ -17,8 +17,8 @@ use Rattle.utf8.specs.Utf8.{within}
 use Rattle.utf8.specs.Scalar.{is_scalar, encoding}
 use Rattle.text.proofs.Cases.{by_bool, clash}
 use Rattle.unescape_codes.specs.Codes.{code_of, simple_of}
-use Rattle.unescape_pieces.specs.Meaning.{Meaning, part, bytes, code, refused, written, scalar_in, plain, brace, quoted}
-use Rattle.unescape_pieces.specs.Pieces.{is_literal, in_brace}
+use Rattle.unescape_pieces.specs.Meaning.{Meaning, part, bytes, code, refused, written, scalar_in, plain, brace, quoted, is_literal}
+use Rattle.unescape_pieces.specs.Pieces.{in_brace}
 
 pub written-nil : (m : Meaning) → written [] m ≡ m
 written-nil (part a e) = refl

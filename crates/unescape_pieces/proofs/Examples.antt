@@ -17,7 +17,6 @@ use Rattle.unescape_pieces.specs.Meaning.{
   code,
   refused,
   quoted,
-  all_literal,
   simply_quoted,
   entry_meaning,
   is_empty,
@@ -30,7 +29,7 @@ use Rattle.unescape_pieces.specs.Meaning.{
 
 -- what computing a meaning unfolds
 unfoldable pub rules : List ℕ → Meaning
-unfolding is_break starts_with is_scalar encoding within lead_of followed char_len digit_of digits_from code_of simple_of quoted all_literal simply_quoted entry_meaning is_empty lines_in later_lines joined_lines block_meaning
+unfolding is_break starts_with is_scalar encoding within lead_of followed char_len digit_of digits_from code_of simple_of quoted simply_quoted entry_meaning is_empty lines_in later_lines joined_lines block_meaning
 rules s = entry_meaning s
 
 -- `"\{0010FFFF}"` is the last scalar value

@@ -9,12 +9,12 @@ use lib.Dec.{eqb, eqb-suc-suc}
 use lib.ListN.{length, take, drop, get_or}
 use borrow.Author.Tests.{eqb-true, ne_eqb, le-leb}
 use Rattle.text.specs.Bytes.{line_end}
-use Rattle.std.specs.List.{prefix_len}
+use Rattle.std.specs.List.{list_all, prefix_len}
 use Rattle.text.specs.declared.bytes.Part.{Part}
 use Rattle.text.proofs.Cases.{by_bool, on-cond, and_left}
 use Rattle.std.proofs.lemmas.List.Sums.{prefix_len-le-length}
-use Rattle.unescape_pieces.specs.Meaning.{part, all_literal, simply_quoted, entry_meaning, block_meaning, meaning}
-use Rattle.unescape_pieces.specs.Pieces.{is_literal, entry_start, block_start, start_of, begun, meaning_from, Lies}
+use Rattle.unescape_pieces.specs.Meaning.{part, is_literal, simply_quoted, entry_meaning, block_meaning, meaning}
+use Rattle.unescape_pieces.specs.Pieces.{entry_start, block_start, start_of, begun, meaning_from, Lies}
 use Rattle.unescape_pieces.specs.declared.start.Style.{Style}
 use Rattle.unescape_pieces.specs.declared.start.Style.TheVariants.{AsIs, Entry, Block}
 use Rattle.unescape_pieces.specs.declared.start.Start.TheVariants.{Plain, Pieces}
@@ -26,8 +26,7 @@ use Rattle.unescape_pieces.proofs.Escapes.{neither}
 abbrev Closes : List ℕ → ℕ → Bool
 Closes r n = eqb (n + 1) (length r) && eqb (get_or r n 0) 34
 
-closes : (c : ℕ) (r : List ℕ) → eqb (get_or (c ∷ r) (length r) 0) 34 && all_literal (take (length r) (c ∷ r)) ≡ Closes (c ∷ r) (prefix_len is_literal (c ∷ r))
-unfolding all_literal
+closes : (c : ℕ) (r : List ℕ) → eqb (get_or (c ∷ r) (length r) 0) 34 && list_all is_literal (take (length r) (c ∷ r)) ≡ Closes (c ∷ r) (prefix_len is_literal (c ∷ r))
 closes c [] =
     by_bool (is_literal c)
     (λ e. rw (e, (neither (eqb c 34) (eqb c 92) e).0))
@@ -48,7 +47,7 @@ simply [] = none
 simply (c ∷ r) =
     let y : length (34 ∷ c ∷ r) - 1 ≡ suc (length r) = omega arith in
     let z : length (34 ∷ c ∷ r) - 2 ≡ length r = omega arith in
-    rw (le-leb 2 (length (34 ∷ c ∷ r)) (omega arith)) (ap₂ (λ i j. eqb (get_or (34 ∷ c ∷ r) i 0) 34 && all_literal (take j (c ∷ r))) y z ∙ closes c r)
+    rw (le-leb 2 (length (34 ∷ c ∷ r)) (omega arith)) (ap₂ (λ i j. eqb (get_or (34 ∷ c ∷ r) i 0) 34 && list_all is_literal (take j (c ∷ r))) y z ∙ closes c r)
 
 entry-begun : (indent s : List ℕ) → entry_meaning s ≡ begun (entry_start s) indent s
 unfolding entry_meaning entry_start meaning_from

@@ -1,12 +1,12 @@
 -- One turn of a loop over the pieces of a text: the place moves on within the text, and the text from there on means the rest.
-use Prim.Native.Nat.{ℕ, zero, suc, ◌+◌, ◌-◌, ◌*◌, ◌≤◌, ◌<◌}
-use mathlib.Core.Path.{◌≡◌, sym, subst, ◌∙◌}
-use mathlib.Core.List.{List, [], ◌∷◌}
-use native.Mathlib.Nat.{sub-zero}
+use Prim.Native.Nat.{ℕ, ◌+◌, ◌-◌, ◌*◌, ◌≤◌, ◌<◌}
+use mathlib.Core.Path.{◌≡◌, sym, ap, subst, ◌∙◌}
+use mathlib.Core.List.{List}
 use native.Mathlib.Omega.{arith}
 use lib.ListN.{length, take, drop, length-drop}
-use lib.Seq.{drop-drop, take-nil, take-take}
+use lib.Seq.{drop-drop, take-take}
 use Rattle.std.specs.Prelude.{Some, Ok}
+use Rattle.std.proofs.lemmas.List.{drop-take}
 use Rattle.unescape_pieces.specs.Pieces.{next_of, meaning_from}
 use Rattle.unescape_pieces.specs.Cursor.{weight}
 use Rattle.unescape_pieces.specs.declared.pieces.Spot.{Spot}
@@ -37,14 +37,10 @@ module _ (indent s : List ℕ) (at : ℕ) (spot : Spot) where
         moved (Run k) m = let d = length-drop at s in record { within = omega arith; falls = omega arith }
         moved (Scalar c) m = let d = length-drop at s in record { within = omega arith; falls = omega arith }
 
-drop-take : (k n : ℕ) (l : List ℕ) → drop k (take n l) ≡ take (n - k) (drop k l)
-drop-take zero n l = rw sub-zero
-drop-take (suc k) zero l = let z : 0 - suc k ≡ 0 = omega arith in rw z
-drop-take (suc k) (suc n) [] = sym (take-nil (suc n - suc k))
-drop-take (suc k) (suc n) (b ∷ l) = let z : suc n - suc k ≡ n - k = omega arith in rw z (drop-take k n l)
-
 -- a part of a part, as a part of the document
 pub nested-part : (d : List ℕ) (n m a e : ℕ) → a ≤ e → e ≤ m → take (n + e - (n + a)) (drop (n + a) d) ≡ take (e - a) (drop a (take m (drop n d)))
 nested-part d n m a e h k =
     let z : n + e - (n + a) ≡ e - a = omega arith in
-    rw (z, drop-take a m (drop n d), drop-drop, take-take (e - a) (m - a) (drop (n + a) d) (omega arith))
+    let y : m ≡ a + (m - a) = omega arith in
+    let x : drop a (take m (drop n d)) ≡ take (m - a) (drop a (drop n d)) = ap (λ i. drop a (take i (drop n d))) y ∙ drop-take a (m - a) (drop n d) in
+    rw (z, x, drop-drop, take-take (e - a) (m - a) (drop (n + a) d) (omega arith))

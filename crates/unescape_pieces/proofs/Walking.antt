@@ -3,7 +3,7 @@
 use Prim.Native.Nat.{ℕ, suc, ◌+◌, ◌-◌, ◌*◌, ◌≤◌, ◌<◌}
 use mathlib.Core.Path.{◌≡◌, refl, sym, ap, ◌∙◌}
 use mathlib.Core.List.{List, [], ◌∷◌}
-use mathlib.Core.Bool.{Bool, true, false, cond}
+use mathlib.Core.Bool.{Bool, true, false, cond, ◌&&◌}
 use native.Mathlib.Omega.{arith}
 use lib.Dec.{eqb, ltb}
 use lib.ListN.{length, take, drop, get_or, get_or-eq_default}
@@ -11,20 +11,20 @@ use lib.Seq.{length-take-le}
 use borrow.Author.Tests.{eqb-true, eqb-false, ltb-true, ltb-false, lt-ltb}
 use native.Mathlib.Nat.{add-zero}
 use Rattle.std.specs.Prelude.{Option, Some, None, Result, Ok, Err}
+use Rattle.std.specs.Option.{option_map}
 use Rattle.text.specs.Bytes.{line_end, not_break, break_size, starts_with}
 use Rattle.std.specs.List.{prefix_len}
 use Rattle.utf8.specs.Scalar.{is_scalar, encoding, encoding_of}
 use Rattle.utf8.specs.Utf8.{char_len}
-use Rattle.text.proofs.Cases.{by_bool, on-cond, clash}
+use Rattle.text.proofs.Cases.{by_bool, on-cond, and_left, clash}
 use Rattle.unescape_codes.proofs.Cases.{by_option, on-option}
 use Rattle.utf8.proofs.Chars.{char_len_le}
 use Rattle.text.proofs.Front.{break-le}
 use Rattle.text.proofs.Prefix.{short}
 use Rattle.std.proofs.lemmas.List.Sums.{prefix_len-le-length}
 use Rattle.unescape_codes.specs.Codes.{simple_of}
-use Rattle.unescape_pieces.specs.Meaning.{Meaning, bytes, refused, written, scalar_in, plain, escape, closed, quoted, is_empty, later_lines}
+use Rattle.unescape_pieces.specs.Meaning.{Meaning, bytes, refused, written, scalar_in, plain, escape, closed, quoted, is_literal, is_empty, later_lines}
 use Rattle.unescape_pieces.specs.Pieces.{
-  is_literal,
   in_brace,
   passing,
   fault_at,
@@ -117,9 +117,9 @@ module _ (indent : List ℕ) where
   break-law : (s : List ℕ) (n : ℕ) → bytes (later_lines indent (lines_after s)) ≡ after (Ok (break_next s)) s n
   unfolding break_next later_lines meaning_from
   break-law s n =
-      by_bool (eqb (opened_by s) 0)
+      by_option (opened_by s)
+      (λ k e. rw (e, ascii 10 (omega arith)) (ap bytes (opened indent (drop k s))))
       (λ e. rw e)
-      (λ e. rw (e, ascii 10 (omega arith)) (ap bytes (opened indent (drop (opened_by s) s))))
 
   pub law : (spot : Spot) (s : List ℕ) (n : ℕ) → meaning_from spot indent s n ≡ after (next_of spot indent s) s n
   unfolding next_of meaning_from line_next
@@ -184,15 +184,6 @@ skip-le later indent l =
     (λ e. by_bool (ltb (length l) (length indent)) (λ t. absurd (clash (sym e ∙ short indent l (ltb-true _ _ t)))) (λ t. ltb-false _ _ t))
     (λ e. on-cond (λ k. k ≤ length l) later (λ _. omega arith) (λ _. omega arith))
 
-opened-le : (s : List ℕ) → opened_by s ≤ length s
-unfolding opened_by
-opened-le s =
-    let h = break-le s in
-    on-cond (λ k. k ≤ length s) (ltb (break_size s) (length s)) (λ e. h)
-    (λ e. on-cond (λ k. k ≤ length s) (eqb (break_size s) 1)
-    (λ f. on-cond (λ k. k ≤ length s) (eqb (get_or s 0 0) 13) (λ _. omega (arith, eqb-true (break_size s) 1 f)) (λ _. omega arith))
-    (λ f. omega arith))
-
 line-steps : (later : Bool) (spot : Spot) (indent s : List ℕ) → weight spot ≡ 1 → Stepped spot s (Ok (Some (line_next later indent s)))
 unfolding line_next
 line-steps later spot indent s w =
@@ -201,11 +192,17 @@ line-steps later spot indent s w =
     (omega (arith, k, length-take-le (line_end s) s n), n, omega arith)
 
 break-steps : (s : List ℕ) → Stepped Break s (Ok (break_next s))
-unfolding break_next
+unfolding break_next opened_by
 break-steps s =
-    let h = opened-le s in
-    on-cond (λ x. Stepped Break s (Ok x)) (eqb (opened_by s) 0) (λ e. tt)
-    (λ e. let p : 1 ≤ opened_by s = omega (arith, eqb-false (opened_by s) 0 e) in (p, h, omega arith))
+    on-cond falls (eqb (break_size s) 0) (λ e. tt)
+    (λ e. on-cond falls (ltb (break_size s) (length s))
+    (λ f. let p : 1 ≤ break_size s = omega (arith, eqb-false (break_size s) 0 e) in (p, break-le s, omega (arith, break-le s)))
+    (λ f. on-cond falls (eqb (break_size s) 1 && eqb (get_or s 0 0) 13)
+    (λ g. let l : 1 ≤ length s = omega (arith, break-le s, eqb-true (break_size s) 1 (and_left (eqb (break_size s) 1) _ g)) in (omega arith, l, omega arith))
+    (λ g. tt)))
+  where
+    falls : Option ℕ → Type 0
+    falls o = Stepped Break s (Ok (option_map (λ n. passing (Scalar 10) n LaterLine) o))
 
 pub steps : (spot : Spot) (indent s : List ℕ) → Stepped spot s (next_of spot indent s)
 unfolding next_of

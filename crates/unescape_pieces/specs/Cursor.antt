@@ -1,5 +1,5 @@
 -- Intermediate: a text that is read piece by piece, as the law has it: what it means from a cursor on.
-use Rattle.std.specs.Prelude.{ℕ, ◌+◌, ◌-◌, ◌*◌, min, ◌≤◌, ◌<◌, ◌≡◌, List, [], length, take, drop, Option, Some, None, Result, Ok, Err}
+use Rattle.std.specs.Prelude.{ℕ, ◌+◌, ◌-◌, ◌*◌, ◌≤◌, ◌<◌, ◌≡◌, List, [], length, take, drop, Option, Some, None, Result, Ok, Err}
 use Rattle.utf8.specs.Scalar.{encoding_of}
 use Rattle.unescape_pieces.specs.Meaning.{Meaning, bytes, refused, written}
 use Rattle.unescape_pieces.specs.Pieces.{meaning_from}
@@ -34,7 +34,7 @@ size c = 2 * left c + weight c.spot
 -- the bytes that a piece comes to
 abbrev pub slice_of : Bytes → List ℕ
 slice_of (AsTheyStand s) = s.now
-slice_of (Encoded e) = take (min e.len 4) e.bytes
+slice_of (Encoded e) = take e.len e.bytes
 
 -- the same of a piece, l being the bytes passed with it, as many as are skipped or more
 abbrev pub piece_bytes : Piece → List ℕ → List ℕ

@@ -4,7 +4,7 @@ use Rattle.std.specs.Prelude.{ℕ, ◌+◌, ◌-◌, List, [], ◌∷◌, ◌++�
 use Rattle.std.specs.Option.{option_and_then, option_map_or}
 use Prim.Native.Char.{code as byte}
 use Rattle.text.specs.Bytes.{not_break, starts_with, shifted_by}
-use Rattle.std.specs.List.{prefix_len}
+use Rattle.std.specs.List.{list_all, prefix_len}
 use Rattle.text.specs.declared.bytes.Part.{Part}
 use Rattle.utf8.specs.Utf8.{char_len}
 use Rattle.utf8.specs.Scalar.{is_scalar, encoding}
@@ -91,10 +91,9 @@ quoted (b ∷ r) (brace s h) n =
     (option_map_or (λ v. written (encoding v) (quoted r plain (n + 1))) (scalar_in h) (code s (through_brace n)))
     (cond (eqb b (byte "\"")) (code s (before_stop n)) m)
 
--- no `"` and no `\` among the bytes
-unfoldable pub all_literal : List ℕ → Bool
-all_literal [] = true
-all_literal (b ∷ r) = let t = all_literal r in not (eqb b (byte "\"") || eqb b (byte "\\")) && t
+-- a byte in quotes that is neither `"` nor `\`
+abbrev pub is_literal : ℕ → Bool
+is_literal b = not (eqb b (byte "\"") || eqb b (byte "\\"))
 
 -- the bytes between the first and the last
 abbrev pub inside : List ℕ → List ℕ
@@ -102,7 +101,7 @@ inside s = take (length s - 2) (drop 1 s)
 
 -- two or more bytes, quoted at both ends, with no `"` or `\` between
 unfoldable pub simply_quoted : List ℕ → Bool
-simply_quoted s = leb 2 (length s) && (eqb (get_or s 0 0) (byte "\"") && (eqb (get_or s (length s - 1) 0) (byte "\"") && all_literal (inside s)))
+simply_quoted s = leb 2 (length s) && (eqb (get_or s 0 0) (byte "\"") && (eqb (get_or s (length s - 1) 0) (byte "\"") && list_all is_literal (inside s)))
 
 -- a key or a value
 unfoldable pub entry_meaning : List ℕ → Meaning

@@ -2,13 +2,13 @@
 -- how many bytes are passed with it, and what stands after them. proofs/Starts and proofs/Walking show that the pieces
 -- together are the meaning.
 use Rattle.std.specs.Prelude.{ℕ, ◌+◌, ◌≤◌, List, [], ◌∷◌, ◌++◌, Bool, true, false, cond, not, ◌&&◌, ◌||◌, eqb, ltb, length, take, drop, get_or, Option, Some, None, Result, Ok, Err}
-use Rattle.std.specs.Option.{option_map_or}
+use Rattle.std.specs.Option.{option_map, option_map_or}
 use Prim.Native.Char.{code as byte}
 use Rattle.text.specs.Bytes.{line_end, break_size, starts_with, part as part_of, shifted_by}
 use Rattle.std.specs.List.{prefix_len}
 use Rattle.utf8.specs.Utf8.{char_len}
 use Rattle.unescape_codes.specs.Codes.{simple_of}
-use Rattle.unescape_pieces.specs.Meaning.{Meaning, part, bytes, scalar_in, plain, quoted, is_empty, lines_in, without, later_lines, joined_lines}
+use Rattle.unescape_pieces.specs.Meaning.{Meaning, part, bytes, is_literal, scalar_in, plain, quoted, is_empty, lines_in, without, later_lines, joined_lines}
 use Rattle.unescape_pieces.specs.declared.pieces.Spot.{Spot}
 use Rattle.unescape_pieces.specs.declared.pieces.Spot.TheVariants.{Quotes, FirstLine, LaterLine, Break}
 use Rattle.unescape_pieces.specs.declared.pieces.Piece.{Piece}
@@ -24,10 +24,6 @@ use Rattle.unescape_pieces.specs.declared.start.Start.TheVariants.{Plain, Pieces
 -- neither `"` nor the byte c
 abbrev pub is_before : ℕ → ℕ → Bool
 is_before c b = not (eqb b (byte "\"") || eqb b c)
-
--- a bare byte is neither `"` nor `\`
-abbrev pub is_literal : ℕ → Bool
-is_literal b = is_before (byte "\\") b
 
 -- a brace stops at `}` or `"`
 abbrev pub in_brace : ℕ → Bool
@@ -82,14 +78,15 @@ skipped later indent l = cond (starts_with indent l) (length indent) (cond later
 unfoldable pub line_next : Bool → List ℕ → List ℕ → Next
 line_next later indent s = passing (Run (skipped later indent (take (line_end s) s))) (line_end s) Break
 
--- the size of the break in front, where it opens a line; 0 where it opens none
-unfoldable pub opened_by : List ℕ → ℕ
+-- the size of the break in front, where it opens a line
+unfoldable pub opened_by : List ℕ → Option ℕ
 opened_by s =
-    cond (ltb (break_size s) (length s)) (break_size s)
-    (cond (eqb (break_size s) 1) (cond (eqb (get_or s 0 0) (byte "\r")) 1 0) 0)
+    cond (eqb (break_size s) 0) None
+    (cond (ltb (break_size s) (length s)) (Some (break_size s))
+    (cond (eqb (break_size s) 1 && eqb (get_or s 0 0) (byte "\r")) (Some 1) None))
 
 unfoldable pub break_next : List ℕ → Option Next
-break_next s = cond (eqb (opened_by s) 0) None (Some (passing (Scalar (byte "\n")) (opened_by s) LaterLine))
+break_next s = option_map (λ n. passing (Scalar (byte "\n")) n LaterLine) (opened_by s)
 
 unfoldable pub next_of : Spot → List ℕ → List ℕ → Result (Option Next) Fault
 next_of Quotes indent s = quoted_next s
@@ -99,7 +96,7 @@ next_of Break indent s = Ok (break_next s)
 
 -- the lines after the break in front
 abbrev pub lines_after : List ℕ → List (List ℕ)
-lines_after s = cond (eqb (opened_by s) 0) [] (lines_in (drop (opened_by s) s))
+lines_after s = option_map_or (λ n. lines_in (drop n s)) (opened_by s) []
 
 -- a later line and those after it, the LF before it passed
 unfoldable pub later_from : List ℕ → List (List ℕ) → List ℕ

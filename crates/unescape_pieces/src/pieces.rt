@@ -80,10 +80,7 @@ fn brace_next(s: &[u8]) -> Result<Option<Next>, Fault>
     ensures { result ≡ brace_next s.now }
 {
     let n = len_before(CLOSING, s);
-    if s.len() <= n {
-        return invalid(n + 2);
-    }
-    if s[n] != CLOSING {
+    if s.get(n) != Some(&CLOSING) {
         return invalid(n + 2);
     }
     let Some(code) = scalar_in(&s[..n]) else {
@@ -161,21 +158,18 @@ fn line_next(later: bool, indent: &[u8], s: &[u8]) -> Next
     }
 }
 
-// The size of the break that s begins with, where it opens a line, else 0: a final LF, or CR LF, opens none, a final CR
-// an empty one.
-// A length, which is added to a place.
+// The size of the break that s begins with, where it opens a line: a final LF, or CR LF, opens none, a final CR an
+// empty one.
 #[tactic(auto, unfolding(crate::specs::Pieces::opened_by))]
-fn opening(s: &[u8]) -> usize
+fn opening(s: &[u8]) -> Option<usize>
     ensures { result ≡ opened_by s.now }
 {
-    let n = text::newline_size(s);
-    if n < s.len() {
-        return n;
+    match text::newline_size(s) {
+        0 => None,
+        n if n < s.len() => Some(n),
+        1 if s.first() == Some(&b'\r') => Some(1),
+        _ => None,
     }
-    if n != 1 {
-        return 0;
-    }
-    if s.first() == Some(&b'\r') { 1 } else { 0 }
 }
 
 // The LF before a later line, or the end of the lines.
@@ -183,12 +177,9 @@ fn opening(s: &[u8]) -> usize
 fn break_next(s: &[u8]) -> Option<Next>
     ensures { result ≡ break_next s.now }
 {
-    let pass = opening(s);
-    if pass == 0 {
-        return None;
-    }
+    let pass = opening(s)?;
     Some(Next {
-        piece: Piece::Scalar(10),
+        piece: Piece::Scalar(u32::from(b'\n')),
         pass,
         spot: Spot::LaterLine,
     })

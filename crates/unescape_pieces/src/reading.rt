@@ -40,7 +40,7 @@ impl<'a> Bytes<'a> {
     {
         match self {
             Bytes::AsTheyStand(s) => s,
-            Bytes::Encoded(e) => &e.bytes[..e.len.min(4)],
+            Bytes::Encoded(e) => &e.bytes[..e.len],
         }
     }
 }

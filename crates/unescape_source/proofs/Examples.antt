@@ -2,6 +2,7 @@
 use mathlib.Core.Path.{◌≡◌, refl}
 use mathlib.Core.List.{◌∷◌, []}
 use Rattle.text.specs.Ascii.{ascii}
+use Rattle.text.specs.Numbers.{error}
 use Rattle.std.specs.Prelude.{Err}
 use Rattle.text.specs.declared.refusals.Refusal.TheVariants.{UnfitToken}
 use Rattle.text.specs.declared.bytes.Part.{Part}
@@ -9,7 +10,7 @@ use Rattle.utf8.specs.Utf8.{within, lead_of, owes, utf8}
 use Rattle.tokenizer.specs.Token.{line_of}
 use Rattle.tokenizer.specs.declared.token.Token.TheVariants.{Comment, Value}
 use Rattle.unescape_pieces.specs.declared.start.Style.TheVariants.{AsIs, Entry}
-use Rattle.unescape_source.specs.Source.{source_of, sound, error, source_in}
+use Rattle.unescape_source.specs.Source.{source_of, sound, source_in}
 
 abbrev fourth : Part
 fourth = record { start = 4; end = 8 }

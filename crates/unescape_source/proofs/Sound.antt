@@ -9,6 +9,7 @@ use lib.ListN.{length, drop, length-drop}
 use lib.Seq.{length-take-le}
 use borrow.Author.Tests.{leb-true, le-ltb, ltb-false}
 use Rattle.utf8.specs.Utf8.{utf8}
+use Rattle.text.specs.Numbers.{error}
 use Rattle.text.specs.declared.bytes.Part.{Part}
 use Rattle.text.proofs.Cases.{and_left, and_right}
 use Rattle.tokenizer.specs.Token.{line_of}
@@ -16,7 +17,7 @@ use Rattle.tokenizer.specs.Step.{bytes_of, fit_part}
 use Rattle.tokenizer.specs.declared.token.Token.{Token}
 use Rattle.text.specs.declared.refusals.Refusal.TheVariants.{TooLong, UnfitToken}
 use Rattle.std.specs.Prelude.{Ok, Err}
-use Rattle.unescape_source.specs.Source.{source_of, sound, error, source_in}
+use Rattle.unescape_source.specs.Source.{source_of, sound, source_in}
 use Rattle.unescape_source.specs.declared.source.Source.{Source}
 
 pub fit-lies : (n : ℕ) (p : Part) → fit_part n p ≡ true → (p.start ≤ p.end) × (p.end ≤ n)

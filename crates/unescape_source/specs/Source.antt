@@ -1,8 +1,7 @@
 -- Law: document 01, 'Unescaping' and 'Numbers by the place where they are checked': a token's text and how it is read, and
 -- whether it may be read: 12, then 13.
 use Rattle.std.specs.Prelude.{ℕ, ◌≤◌, List, Bool, cond, ◌&&◌, ltb, length, Result, Ok, Err}
-use Rattle.text.specs.Numbers.{max_document}
-use Rattle.text.specs.declared.refusals.Refusal.{Refusal}
+use Rattle.text.specs.Numbers.{max_document, error}
 use Rattle.text.specs.declared.refusals.Refusal.TheVariants.{TooLong, UnfitToken}
 use Rattle.text.specs.declared.refusals.SyntaxError.{SyntaxError}
 use Rattle.utf8.specs.Utf8.{utf8}
@@ -50,10 +49,6 @@ meaning_in d w = meaning w.style (bytes_of d w.text) (bytes_of d w.indent)
 -- a part that does not start after its end, nor end past the document, and is UTF-8; else 13
 unfoldable pub sound : List ℕ → Part → Bool
 sound d p = fit_part (length d) p && utf8 (bytes_of d p)
-
--- a refusal on a line
-abbrev pub error : Refusal → ℕ → SyntaxError
-error r l = record { refusal = r; line = l }
 
 -- a token's source, where the document is within its limit and both parts are sound
 unfoldable pub source_in : List ℕ → Token → Result Source SyntaxError

@@ -5,10 +5,11 @@ ghost use Rattle.unescape_pieces.specs.declared.start.Style.TheVariants.{AsIs};
 ghost use Rattle.unescape_source.specs.Source.{source_at as worded_as, source_of, sound, source_in, Lies};
 
 use text::{Part, Refusal, SyntaxError};
-use tokenizer::{State, Token, part_fits};
+use tokenizer::{Token, part_fits, within_limit};
 use unescape_pieces::Style;
 
-// A token's text, the empty part at 0 where it has none, and a multiline value's indentation.
+// A token's text and a multiline value's indentation. Where there is none, the empty part at 0, which is tested and
+// read as any other.
 #[derive(Clone, Copy)]
 pub struct Source {
     pub style: Style,
@@ -23,7 +24,7 @@ fn source_at(style: Style, text: Part) -> Source
     Source {
         style,
         text,
-        indent: Part { start: 0, end: 0 },
+        indent: Part::EMPTY,
     }
 }
 
@@ -31,7 +32,7 @@ fn source_at(style: Style, text: Part) -> Source
 fn no_source() -> Source
     ensures { result ≡ worded_as AsIs no_part }
 {
-    source_at(Style::AsIs, Part { start: 0, end: 0 })
+    source_at(Style::AsIs, Part::EMPTY)
 }
 
 // The text of a token, and how it is read.
@@ -70,12 +71,7 @@ pub fn source_in(t: Token, doc: &[u8]) -> Result<Source, SyntaxError>
     ensures value { result ≡ source_in doc.now t }
     ensures within { IfOk result (Lies (length doc.now)) }
 {
-    if State::MAX_DOCUMENT < doc.len() {
-        return Err(SyntaxError {
-            refusal: Refusal::TooLong,
-            line: 0,
-        });
-    }
+    within_limit(doc)?;
     let w = source_of(t);
     if is_sound(doc, w.text) & is_sound(doc, w.indent) {
         return Ok(w);

@@ -1,5 +1,5 @@
 -- What `encode` answers: an encoding has at most four bytes, and they are the first ones that it gives.
-use Prim.Native.Nat.{ℕ, min, ◌≤◌}
+use Prim.Native.Nat.{ℕ, ◌≤◌}
 use mathlib.Core.Path.{◌≡◌, ◌∙◌}
 use mathlib.Core.List.{[], ◌∷◌, ◌++◌}
 use native.Mathlib.Omega.{arith}
@@ -7,7 +7,7 @@ use lib.Dec.{ltb}
 use lib.ListN.{length, take}
 use lib.Seq.{take-take, take-append_seam}
 use Rattle.text.proofs.Cases.{by_bool}
-use Rattle.utf8.specs.Scalar.{is_scalar, encoding, encoding_of, encoded_of}
+use Rattle.utf8.specs.Scalar.{is_scalar, encoding, encoding_of, padded}
 
 four : (n : ℕ) → length (encoding n) ≤ 4
 unfolding encoding
@@ -20,8 +20,5 @@ unfolding encoding_of
 encoding-le n = by_bool (is_scalar n) (λ e. rw e (four n)) (λ e. rw e (omega arith))
 
 -- the bytes that it gives, as a caller takes them
-pub encoded_bytes : (n : ℕ) → take (min (encoded_of n).len 4) (encoded_of n).bytes ≡ encoding_of n
-unfolding encoded_of
-encoded_bytes n =
-    let m : min (length (encoding_of n)) 4 ≡ length (encoding_of n) = omega (arith, encoding-le n) in
-    rw m (take-take (length (encoding_of n)) 4 (encoding_of n ++ 0 ∷ 0 ∷ 0 ∷ 0 ∷ []) (encoding-le n) ∙ take-append_seam (encoding_of n) (0 ∷ 0 ∷ 0 ∷ 0 ∷ []))
+pub encoded_bytes : (n : ℕ) → take (length (encoding_of n)) (padded (encoding_of n)) ≡ encoding_of n
+encoded_bytes n = take-take (length (encoding_of n)) 4 (encoding_of n ++ 0 ∷ 0 ∷ 0 ∷ 0 ∷ []) (encoding-le n) ∙ take-append_seam (encoding_of n) (0 ∷ 0 ∷ 0 ∷ 0 ∷ [])

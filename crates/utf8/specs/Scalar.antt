@@ -1,8 +1,7 @@
 -- Law: the scalar values, of document 01, 'Unescaping', and their encoding by the arithmetic of Table 3-6 of the
 -- Unicode Standard. Nothing here rests on Table 3-7: proofs/Unicode shows that the two agree.
-use Rattle.std.specs.Prelude.{ℕ, ◌+◌, ◌/◌, ◌%◌, ◌≡◌, ◌↔◌, List, [], ◌∷◌, ◌++◌, Bool, true, cond, ◌||◌, ◌&&◌, ltb, leb, length, take}
+use Rattle.std.specs.Prelude.{ℕ, ◌+◌, ◌/◌, ◌%◌, ◌≡◌, ◌↔◌, List, [], ◌∷◌, ◌++◌, Bool, true, cond, ◌||◌, ◌&&◌, ltb, leb, take}
 use Rattle.utf8.specs.Utf8.{utf8}
-use Rattle.utf8.specs.declared.scalar.Encoded.{Encoded}
 
 -- not D800 to DFFF, and at most 10FFFF
 unfoldable pub is_scalar : ℕ → Bool
@@ -29,9 +28,9 @@ all_scalar (n ∷ ns) = is_scalar n && all_scalar ns
 unfoldable pub encoding_of : ℕ → List ℕ
 encoding_of n = cond (is_scalar n) (encoding n) []
 
--- the same as the code has it: zeros after the bytes
-unfoldable pub encoded_of : ℕ → Encoded
-encoded_of n = record { bytes = take 4 (encoding_of n ++ 0 ∷ 0 ∷ 0 ∷ 0 ∷ []); len = length (encoding_of n) }
+-- up to four bytes, zeros after them
+abbrev pub padded : List ℕ → List ℕ
+padded w = take 4 (w ++ 0 ∷ 0 ∷ 0 ∷ 0 ∷ [])
 
 -- the scalar values whose encodings make up a text
 pub record Decoded (s : List ℕ) : Type 0 where

@@ -1,12 +1,14 @@
-ghost use Rattle.std.specs.Prelude.{◌≡◌, ◌+◌, ◌%◌, ◌/◌};
-ghost use Rattle.utf8.specs.Scalar.{is_scalar, encoded_of};
+ghost use Rattle.std.specs.Prelude.{◌≡◌, ◌≤◌, ◌+◌, ◌%◌, ◌/◌, length};
+ghost use Rattle.utf8.specs.Scalar.{is_scalar, encoding_of, padded};
 
 // The bytes that encode a scalar value, zeros after them, and how many they are: none for any other number, so that
-// encode asks nothing of its caller. A buffer with its length, since memory is fixed: no slice could be handed out.
+// encode asks nothing of its caller. A buffer with its length: memory is fixed, and no slice of a local array can
+// leave.
 #[derive(Clone, Copy, Debug, PartialEq, Eq)]
 pub struct Encoded {
     pub bytes: [u8; 4],
     pub len: usize,
+    pub ghost within: { len ≤ 4 },
 }
 
 // Whether n is a scalar value: not D800 to DFFF, and at most 10FFFF.
@@ -24,9 +26,10 @@ fn trail(n: u32) -> u8
     0x80 + (n % 64) as u8
 }
 
-#[tactic(auto, unfolding(crate::specs::Scalar::encoded_of, crate::specs::Scalar::encoding_of, crate::specs::Scalar::encoding), using(crate::proofs::Scalars::scalar_le))]
+#[tactic(auto, unfolding(crate::specs::Scalar::encoding_of, crate::specs::Scalar::encoding), using(crate::proofs::Scalars::scalar_le))]
 pub fn encode(n: u32) -> Encoded
-    ensures { result ≡ encoded_of n }
+    ensures bytes { result.bytes ≡ padded (encoding_of n) }
+    ensures len { result.len ≡ length (encoding_of n) }
 {
     if !is_scalar(n) {
         return Encoded {

@@ -101,8 +101,8 @@ fn is_three(s: &[u8]) -> bool
     is_within(0xE0, 0xEF, s[0]) & is_within(low, high, s[1]) & is_within(0x80, 0xBF, s[2])
 }
 
-// How many bytes the character has that s begins with; 0 where it begins with no well-formed one. It is a length, 0
-// where nothing stands, as the rule counts it: a caller adds it to a place, so an Option would only be undone there.
+// How many bytes the character has that s begins with; 0 where it begins with no well-formed one: a length, as the rule
+// has it. Where it moves the place, an Option would be undone.
 // Most letters beyond ASCII have two or three bytes, and the table's jump is slow: for these there are ways past it.
 #[tactic(auto, using(crate::proofs::Chars::char_len_le))]
 pub fn char_len(s: &[u8]) -> usize

@@ -50,12 +50,7 @@ impl<'a> Numbers<'a> {
 
     // Whether the next are these.
     pub fn are<T: Into<usize> + Copy>(&mut self, wanted: &[T]) -> bool {
-        for n in wanted {
-            if self.next() != Some((*n).into()) {
-                return false;
-            }
-        }
-        true
+        wanted.iter().all(|n| self.next() == Some((*n).into()))
     }
 
     // Whether they are these and no more.
@@ -70,5 +65,15 @@ impl<'a> Numbers<'a> {
             *byte = u8::try_from(self.next()?).ok()?;
         }
         room.get(..len)
+    }
+}
+
+// The part of the text that an answer of this first word names; of another one, an empty part.
+pub fn named_part<'a>(s: &'a [u8], answer: [usize; 5], first: usize) -> Option<&'a [u8]> {
+    let [kind, _, _, start, end] = answer;
+    if kind == first {
+        s.get(start..end)
+    } else {
+        Some(&s[..0])
     }
 }

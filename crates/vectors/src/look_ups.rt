@@ -1,5 +1,5 @@
 // The look-up: its answer, and the entry that it finds.
-use crate::lines::Numbers;
+use crate::lines::{Numbers, named_part};
 
 // The text is a document; the numbers are the wanted key's length and bytes, and the answer.
 pub fn look_up_agrees(s: &[u8], mut numbers: Numbers<'_>) -> bool {
@@ -11,11 +11,6 @@ pub fn look_up_agrees(s: &[u8], mut numbers: Numbers<'_>) -> bool {
     if !found_words::look_up(s, wanted, &mut answer) {
         return false;
     }
-    let [kind, _, _, start, end] = answer;
-    let entry = if kind == 1 {
-        s.get(start..end)
-    } else {
-        Some(&s[..0])
-    };
+    let entry = named_part(s, answer, found_words::AT);
     numbers.are_all(&answer) && entry == Some(look_up::entry(s, wanted))
 }

@@ -3,25 +3,28 @@
 use crate::lines::Numbers;
 use parser::State;
 use reader::Tokenizer;
-use tokenizer::{Answer, Said};
-use tokenizer_rows::{said_row, token_row};
+use text::SyntaxError;
+use tokenizer::{Answer, Said, Token};
+use tokenizer_rows::said_row;
 
 // A text of 256 bytes has at most 512 answers; End, then, comes again.
 const STEPS: usize = 514;
 
-// Whether the next numbers are the answer's row, without the word behind its parts; End has none.
-fn is_next(answer: Answer, numbers: &mut Numbers<'_>) -> bool {
-    let Some(said) = answer else {
-        return true;
-    };
-    let row = match said {
-        Ok(t) => token_row(t),
-        Err(e) => said_row(Said::refused(e.refusal, e.line)),
-    };
-    numbers.are(&row[..6])
+// A token or a refusal in numbers.
+fn told(said: Result<Token, SyntaxError>) -> Said {
+    match said {
+        Ok(t) => Said::from(t),
+        Err(e) => Said::refused(e.refusal, e.line),
+    }
 }
 
-// Whether the numbers are the rows of the answers that come.
+// Whether the next numbers are the answer's row, without the word behind its parts; End has none.
+fn is_next(answer: Answer, numbers: &mut Numbers<'_>) -> bool {
+    answer.is_none_or(|said| numbers.are(&said_row(told(said))[..6]))
+}
+
+// Whether the numbers are the rows of the answers that come. A loop: by `all`, tried, the proof that `next` may be
+// called each time did not close.
 fn agrees<F: FnMut() -> Answer>(mut next: F, mut numbers: Numbers<'_>) -> bool
     requires { (f : _) → F.pre f }
 {

@@ -7,12 +7,7 @@ fn rows_agree(mut numbers: Numbers<'_>, rows: &[usize], n: usize) -> bool {
     let Some(rows) = rows.get(..n) else {
         return false;
     };
-    for row in rows {
-        if !numbers.are(&row[..6]) {
-            return false;
-        }
-    }
-    numbers.rest.is_empty()
+    rows.iter().all(|row| numbers.are(&row[..6])) && numbers.rest.is_empty()
 }
 
 // A text of 256 bytes has at most 512 answers: one batch has room for them all, and one row more.

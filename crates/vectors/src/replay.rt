@@ -114,11 +114,9 @@ pub fn all(s: &[u8]) -> Tally {
         differences: 0,
         first: None,
     };
-    let mut number: usize = 0;
-    for line in s.split_inclusive(|b| text::is_newline(*b)) {
-        number = number.saturating_add(1);
+    for (i, line) in s.split_inclusive(|b| text::is_newline(*b)).enumerate() {
         let text = line.get(..text::line_end(line));
-        tally.count(number, text.and_then(|text| check_line(text)));
+        tally.count(i.saturating_add(1), text.and_then(|text| check_line(text)));
     }
     tally
 }

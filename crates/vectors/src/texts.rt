@@ -1,5 +1,5 @@
 // UTF-8, trimming, names and unescaping.
-use crate::lines::Numbers;
+use crate::lines::{Numbers, named_part};
 use text::{Dropped, Part};
 use tokenizer::Token;
 use tokenizer_rows::{token_in, token_row};
@@ -15,17 +15,12 @@ pub fn trimming_agrees(s: &[u8], numbers: Numbers<'_>, which: Dropped) -> bool {
     numbers.are_all(&[p.start, p.end])
 }
 
-// The text is the name of a token whose kind is the number. A name has zeros behind it.
+// The text is the name of a token whose kind is the number.
 pub fn name_agrees(s: &[u8], mut numbers: Numbers<'_>) -> bool {
     let Some(kind) = numbers.next() else {
         return false;
     };
-    let name = token_in(&[kind, 1, 0, 0, 0, 0]).name();
-    let bytes = name.bytes;
-    let Some((front, behind)) = bytes.split_at_checked(name.len) else {
-        return false;
-    };
-    numbers.rest.is_empty() && front == s && behind.iter().all(|b| *b == 0)
+    numbers.rest.is_empty() && token_in(&[kind, 1, 0, 0, 0, 0]).name() == s
 }
 
 // Whether the numbers are the answer for the token and, where its text is written, the bytes of this, which is no
@@ -36,13 +31,8 @@ fn unescaping_agrees(s: &[u8], mut numbers: Numbers<'_>, t: Token) -> bool {
     if !answer_words::unescape(s, &token_row(t), &mut out, &mut answer) {
         return false;
     }
-    let [kind, _, _, start, end] = answer;
-    let plain = if kind == 0 {
-        s.get(start..end)
-    } else {
-        Some(&s[..0])
-    };
-    let written = out.get(..if kind == 1 { end } else { 0 });
+    let plain = named_part(s, answer, answer_words::PLAIN);
+    let written = named_part(&out, answer, answer_words::WRITTEN);
     numbers.are(&answer)
         && written.is_some_and(|bytes| numbers.are_all(bytes))
         && plain == Some(unescape::plain(t, s))

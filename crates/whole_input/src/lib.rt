@@ -19,8 +19,8 @@ pub fn zeros<const N: usize>() -> [u8; N]
 }
 
 // Reads until the input ends, buf is full or a read fails. What was read is the front of buf, and where that is not all
-// of it, the input has ended. A loop of its own, since `read_exact` fails where an
-// input ends and `read_to_end` needs a heap.
+// of it, the input has ended. A loop of its own, since `read_exact` fails where an input ends and `read_to_end` needs a
+// heap.
 pub fn read_full<R: Read>(input: &mut R, buf: &mut [u8]) -> io::Result<usize>
     ensures bound { ReadsAtMost result buf.new }
     ensures bytes { IfOk result (λ n. Consumes (R.remaining input.old) (R.remaining input.new) (take n buf.new)) }

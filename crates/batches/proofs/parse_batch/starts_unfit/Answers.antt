@@ -3,15 +3,12 @@ use mathlib.Core.Path.{ap, ◌∙◌}
 use lib.Dec.{eqb}
 use Rattle.std.specs.Prelude.{Some}
 use Rattle.std.specs.Option.{option_eq}
-use borrow.Author.Tests.{lt-ltb, le-ltb}
+use borrow.Author.Tests.{lt-ltb}
 use Rattle.batches.specs.Walks.{stepping}
 use Rattle.step_words.specs.declared.step.Layer.TheVariants.{Parser}
 use Rattle.batches.proofs.Single.{not-unfit}
 use Rattle.batches.proofs.Taking.{last_one}
 use Rattle.batches.proofs.parse_batch.starts_unfit.Goals as goal
-
-pub returns-then-room-ge7 : goal.returns-then-room-ge7
-returns-then-room-ge7 c = rw (le-ltb _ _ c.if-room-ge7.true)
 
 pub returns : goal.returns
 returns c =

@@ -20,7 +20,7 @@ returns-in-Some c =
     let t = c.take_rows-t.ensures in
     let l = le-ltb _ _ c.if-doc-gt-MAX_DOCUMENT.false in
     let g = none-taken Parser c.args.doc.now c.args.words.now c.args.row.now (omega arith) (sym t.last_value ∙ c.in-Some.is) in
-    record { words_after = rw l (t.w_after ∙ g.0); row_after = rw l (c.bare_row.ensures ∙ g.1) }
+    record { words_after = rw l (t.w_after ∙ g.0); row_after = rw l (c.said_row-in-Some.ensures ∙ ap row_by c.bare.ensures ∙ g.1) }
 
 pub returns-in_default : goal.returns-in_default
 unfolding next_of

@@ -2,9 +2,6 @@
 use Rattle.front_words.proofs.Fronts.{inner-at, inner-past}
 use Rattle.front_words.proofs.front.inner_in.Goals as goal
 
-pub returns-then-depth-eq0 : goal.returns-then-depth-eq0
-returns-then-depth-eq0 c = rw c.if-depth-eq0.true
-
 pub returns-then-depth-gt-MAX_OPEN : goal.returns-then-depth-gt-MAX_OPEN
 returns-then-depth-gt-MAX_OPEN c = inner-past c.args.w.now c.args.depth c.if-depth-gt-MAX_OPEN.true
 

@@ -1,26 +1,31 @@
 use mathlib.Core.Path.{ap, ◌∙◌}
+use Prim.Native.Nat.{◌+◌, ◌*◌, ◌≤◌}
+use lib.ListN.{length}
 use native.Mathlib.Omega.{arith}
 use Rattle.line_scans.specs.Words.{hits_of}
-use Rattle.line_scans.proofs.Places.{start, ended, found, passed}
+use Rattle.line_scans.proofs.Chunks.{paired}
+use Rattle.line_scans.proofs.Places.{found, passed}
 use Rattle.line_scans.proofs.words.line_sixteens.Goals as goal
-
-pub loop-k-init : goal.loop-k-init
-loop-k-init c = start _
 
 pub returns-then-low-high-ne0 : goal.returns-then-low-high-ne0
 returns-then-low-high-ne0 c =
-    let low = c.hits-low.ensures ∙ ap (hits_of 8) c.word_at.ensures in
-    let high = c.hits-high.ensures ∙ ap (hits_of 8) c.word_at-in-loop-k.ensures in
+    let k = c.loop-k.k in
+    let s = c.args.s.now in
+    let l : 16 * k + 16 ≤ length s = omega (arith, c.loop-k-test.true, c.as_chunks.ensures.front_len, c.as_chunks-2.ensures.front_len) in
+    let pair = paired s _ _ c.as_chunks.ensures.front c.as_chunks.ensures.front_len c.as_chunks-2.ensures.front k l in
+    let low = c.hits-low.ensures ∙ ap (hits_of 8) (c.from_le_bytes.ensures ∙ pair 0 (16 * k) (omega arith) (omega arith)) in
+    let high = c.hits-high.ensures ∙ ap (hits_of 8) (c.from_le_bytes-in-loop-k.ensures ∙ pair 1 (16 * k + 8) (omega arith) (omega arith)) in
     record {
-      value = rw c.first_hit.ensures.value (found c.loop-k.k c.loop-k.invariant (λ i. (c.type_inv.s i).fits) (omega (arith, c.loop-k-test.true)) low high c.if-low-high-ne0.true);
-      within = omega (arith, c.loop-k-test.true, c.first_hit.ensures.at_most);
+      value = rw c.first_hit.ensures.value (found k c.loop-k.invariant (λ i. (c.type_inv.s i).fits) l low high c.if-low-high-ne0.true);
+      within = omega (arith, l, c.first_hit.ensures.at_most);
     }
 
 pub loop-k-preserved : goal.loop-k-preserved
 loop-k-preserved c =
-    let low = c.hits-low.ensures ∙ ap (hits_of 8) c.word_at.ensures in
-    let high = c.hits-high.ensures ∙ ap (hits_of 8) c.word_at-in-loop-k.ensures in
-    passed c.loop-k.k c.loop-k.invariant (λ i. (c.type_inv.s i).fits) (omega (arith, c.loop-k-test.true)) low high c.if-low-high-ne0.false
-
-pub returns : goal.returns
-returns c = record { value = ended c.loop-k.k c.loop-k.invariant c.loop-k-test.false; within = omega arith }
+    let k = c.loop-k.k in
+    let s = c.args.s.now in
+    let l : 16 * k + 16 ≤ length s = omega (arith, c.loop-k-test.true, c.as_chunks.ensures.front_len, c.as_chunks-2.ensures.front_len) in
+    let pair = paired s _ _ c.as_chunks.ensures.front c.as_chunks.ensures.front_len c.as_chunks-2.ensures.front k l in
+    let low = c.hits-low.ensures ∙ ap (hits_of 8) (c.from_le_bytes.ensures ∙ pair 0 (16 * k) (omega arith) (omega arith)) in
+    let high = c.hits-high.ensures ∙ ap (hits_of 8) (c.from_le_bytes-in-loop-k.ensures ∙ pair 1 (16 * k + 8) (omega arith) (omega arith)) in
+    passed k c.loop-k.invariant (λ i. (c.type_inv.s i).fits) l low high c.if-low-high-ne0.false

@@ -4,7 +4,7 @@ use Rattle.text.specs.declared.refusals.Refusal.TheVariants.{TooLong}
 use Rattle.std.proofs.Common.{rules}
 use mathlib.Core.Path.{refl, sym, ap, ◌∙◌}
 use native.Mathlib.Omega.{arith}
-use lib.ListN.{length, replicate}
+use lib.ListN.{replicate}
 use Rattle.tokenizer_rows.specs.Rows.{row_by}
 use Rattle.step_words.proofs.Laws.{fresh-reads}
 use Rattle.batches.proofs.Walking.{called}
@@ -31,14 +31,11 @@ loop-row-init c =
     let f = fresh-reads c.args.doc.now (replicate 278 0) refl in
     rw c.fresh_parser.ensures.state_after (f.1, start _ _ _ f.0 c.if-doc-gt-MAX_LISTED.false (omega arith), refl)
 
-pub bounds-row-0 : goal.bounds-row-0
-bounds-row-0 c = omega (arith, ap length c.next.ensures.row_after)
-
-pub returns-then-row-eq0 : goal.returns-then-row-eq0
-returns-then-row-eq0 c =
+pub returns-then-row-eq-END : goal.returns-then-row-eq-END
+returns-then-row-eq-END c =
     let h = wrote header 0 _ c.put.ensures.len c.put.ensures.out in
     let k = called c.args.doc.now c.loop-row.words c.loop-row.invariant.0 c.next.ensures.words_after c.next.ensures.row_after in
-    let e = end-zero _ (sym k.number ∙ c.if-row-eq0.true) in
+    let e = end-zero _ (sym k.number ∙ c.if-row-eq-END.true) in
     let all = listed _ c.if-doc-gt-MAX_LISTED.false (both h (ended _ _ _ c.loop-row.invariant.1 e)) in
     let h = all.1 in
     let same = c.loop-row.invariant.2 ∙ c.put.ensures.same_reference in
@@ -47,17 +44,17 @@ returns-then-row-eq0 c =
 pub put_row-requires-in-loop-row : goal.put_row-requires-in-loop-row
 put_row-requires-in-loop-row c =
     let k = called c.args.doc.now c.loop-row.words c.loop-row.invariant.0 c.next.ensures.words_after c.next.ensures.row_after in
-    row_fits _ _ _ c.loop-row.invariant.1 (not-zero _ (λ e. c.if-row-eq0.false (k.number ∙ e)))
+    row_fits _ _ _ c.loop-row.invariant.1 (not-zero _ (λ e. c.if-row-eq-END.false (k.number ∙ e)))
 
 pub loop-row-smaller : goal.loop-row-smaller
 loop-row-smaller c =
     let k = called c.args.doc.now c.loop-row.words c.loop-row.invariant.0 c.next.ensures.words_after c.next.ensures.row_after in
-    fewer _ _ _ c.loop-row.invariant.1 (not-zero _ (λ e. c.if-row-eq0.false (k.number ∙ e))) k.stepped
+    fewer _ _ _ c.loop-row.invariant.1 (not-zero _ (λ e. c.if-row-eq-END.false (k.number ∙ e))) k.stepped
 
 pub loop-row-preserved : goal.loop-row-preserved
 loop-row-preserved c =
     let k = called c.args.doc.now c.loop-row.words c.loop-row.invariant.0 c.next.ensures.words_after c.next.ensures.row_after in
-    let onward = not-zero _ (λ e. c.if-row-eq0.false (k.number ∙ e)) in
+    let onward = not-zero _ (λ e. c.if-row-eq-END.false (k.number ∙ e)) in
     let line = line-is _ onward in
     let p = c.put_row-in-loop-row.ensures in (
       k.reading,

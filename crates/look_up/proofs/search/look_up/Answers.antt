@@ -1,22 +1,14 @@
-use mathlib.Core.Path.{refl, sym}
-use native.Mathlib.Omega.{arith}
+use mathlib.Core.Path.{refl}
 use lib.ListN.{replicate}
 use Rattle.step_words.proofs.Laws.{fresh-reads}
 use Rattle.batches.proofs.Walking.{called}
-use Rattle.look_up.proofs.Searched.{look-up-over}
 use Rattle.look_up.proofs.Searching.{begins, finds, falls, goes_on}
 use Rattle.look_up.proofs.search.look_up.Goals as goal
-
-pub returns-then-doc-gt-MAX_DOCUMENT : goal.returns-then-doc-gt-MAX_DOCUMENT
-returns-then-doc-gt-MAX_DOCUMENT c = sym (look-up-over _ _ c.if-doc-gt-MAX_DOCUMENT.true)
 
 pub loop-found-init : goal.loop-found-init
 loop-found-init c =
     let f = fresh-reads c.args.doc.now (replicate 278 0) refl in
-    rw c.fresh_parser.ensures.state_after (f.1, rw f.0 (begins _ _ c.if-doc-gt-MAX_DOCUMENT.false))
-
-pub on_row-requires : goal.on_row-requires
-on_row-requires c = omega (arith, c.loop-found.invariant.1.counts)
+    rw c.fresh_parser.ensures.state_after (f.1, rw f.0 (begins _ _ c.in_ok-within_limit.ensures.within))
 
 pub returns-in-Break : goal.returns-in-Break
 returns-in-Break c =

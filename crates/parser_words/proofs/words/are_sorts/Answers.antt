@@ -1,22 +1,17 @@
-use Prim.Native.Nat.{◌+◌, ◌*◌, ◌-◌, suc}
-use mathlib.Core.Path.{◌≡◌}
-use native.Mathlib.Omega.{arith}
-use borrow.Author.Tests.{le-leb, lt-leb}
-use Rattle.parser_words.specs.ParserWords.{are_sorts}
-use Rattle.parser_words.proofs.Sections.{sorts-more}
+-- All sorts in their order (proofs/Sections).
+use mathlib.Core.Path.{refl, ◌∙◌}
+use lib.Dec.{leb}
+use lib.ListN.{get_or}
+use Prim.Native.Nat.{◌+◌, ◌*◌}
+use Rattle.std.proofs.Common.{rules, tests}
+use Rattle.std.proofs.lemmas.Iterator.{YieldsList-from_range}
+use Rattle.std.proofs.lemmas.Iterator.Search.{all_from_yields_List}
+use Rattle.parser_words.proofs.Sections.{sorts_all}
 use Rattle.parser_words.proofs.words.are_sorts.Goals as goal
 
-pub returns-then-w-k-gt2 : goal.returns-then-w-k-gt2
-returns-then-w-k-gt2 c =
-    let e : 65 - c.loop-k.k ≡ suc (65 - (c.loop-k.k + 1)) = omega (arith, c.loop-k-test.true) in
-    rw (c.loop-k.invariant, e, sorts-more, lt-leb _ _ c.if-w-k-gt2.true)
-
-pub loop-k-preserved : goal.loop-k-preserved
-loop-k-preserved c =
-    let e : 65 - c.loop-k.k ≡ suc (65 - (c.loop-k.k + 1)) = omega (arith, c.loop-k-test.true) in
-    let f : 148 + 2 * c.loop-k.k + 2 ≡ 148 + 2 * (c.loop-k.k + 1) = omega arith in
-    rw (c.loop-k.invariant, e, sorts-more, le-leb _ _ c.if-w-k-gt2.false, f)
-
 pub returns : goal.returns
-unfolding are_sorts
-returns c = let e : 65 - c.loop-k.k ≡ 0 = omega (arith, c.loop-k-test.false) in rw (c.loop-k.invariant, e)
+returns c =
+    let w = c.args.w.now in
+    all_from_yields_List (λ i. leb (get_or w (148 + 2 * i) 0) 2) _ _ _ c.all.ensures.ran
+    (YieldsList-from_range 0 65 65 refl refl) (λ x b q k. search (rules, tests))
+    ∙ sorts_all w 65 0

@@ -1,12 +1,7 @@
 -- What stands for nothing is read before the words are copied over.
-use mathlib.Core.Path.{sym, ap, ◌∙◌}
-use lib.Seq.{length-take-le}
+use mathlib.Core.Path.{ap, ◌∙◌}
 use Rattle.tokenizer_words.specs.Words.{pasted_in, held_words, state_in}
 use Rattle.parser_words.proofs.words.copy_parser.Goals as goal
-
-pub slice_bounds-paste-end : goal.slice_bounds-paste-end
-slice_bounds-paste-end c =
-    sym (length-take-le 278 c.args.src.now c.requires)
 
 pub returns : goal.returns
 unfolding state_in

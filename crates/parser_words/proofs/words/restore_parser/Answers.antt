@@ -6,10 +6,6 @@ use Rattle.parser_words.proofs.Tests.{has-278, stored-278}
 use Rattle.parser_words.proofs.Restoring.{tokenizer-reads, restored-parser}
 use Rattle.parser_words.proofs.words.restore_parser.Goals as goal
 
-pub returns-then-not-is_parser : goal.returns-then-not-is_parser
-returns-then-not-is_parser c =
-    record { value = rw (sym c.is_parser.ensures ∙ c.if-not-is_parser.true); dst_after = refl }
-
 pub returns-then-not-is_fit : goal.returns-then-not-is_fit
 unfolding parser_in
 returns-then-not-is_fit c =

@@ -14,8 +14,8 @@ returns c =
     let both : (c.match-o.after ≡ count_after o.change c.args.count) × (◌≡◌ {A = List ℕ} c.match-o.w (section_put o.change c.args.count c.args.w.now)) =
     elim c.match-o.branch [
       | in-Keep b ↦ rw b.in-Keep.is (b.after-is, b.w-is)
-      | in-Fix b ↦ rw (b.in-Fix.is, ← b.sort_word.ensures) (b.after-is, b.w-is)
+      | in-Fix b ↦ rw (b.in-Fix.is, ← b.from.ensures) (b.after-is, b.w-is)
       | in-Open b ↦ rw b.in-Open.is (b.after-is, b.w-is)
       | in-Close b ↦ rw b.in-Close.is (b.after-is, b.w-is)
     ] in
-    rw (c.paste.ensures, c.flag_of.ensures, both.0, both.1)
+    rw (c.paste.ensures, c.middle_by-middle.ensures, both.0, both.1)

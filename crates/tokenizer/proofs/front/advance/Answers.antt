@@ -4,7 +4,7 @@ use mathlib.Core.Path.{◌≡◌, sym, ◌∙◌}
 use Rattle.text.proofs.Front.{from}
 use Rattle.tokenizer.specs.Front.{advance_with, advance_rule}
 use Rattle.tokenizer.proofs.Kept.{indent-fit}
-use Rattle.tokenizer.proofs.Advancing.{nearness, room, over, far, advances}
+use Rattle.tokenizer.proofs.Advancing.{near-front, near-inner, room, over, far, advances}
 use Rattle.tokenizer.proofs.front.advance.Goals as goal
 
 pub returns-then-doc-gt-MAX_DOCUMENT : goal.returns-then-doc-gt-MAX_DOCUMENT
@@ -15,26 +15,27 @@ returns-then-not-is_near c =
     c.stays-then-not-is_near.ensures ∙ sym (far _ _ _ c.if-doc-gt-MAX_DOCUMENT.false (sym c.is_near.ensures ∙ c.if-not-is_near.true))
 
 pub slice_bounds-indent_at-count : goal.slice_bounds-indent_at-count
-slice_bounds-indent_at-count c = (nearness _ _ _ (sym c.is_near.ensures ∙ c.if-not-is_near.false)).place
+slice_bounds-indent_at-count c = (near-front _ _ _ (sym c.is_near.ensures ∙ c.if-not-is_near.false)).place
 
 pub slice_bounds-indent_at-start : goal.slice_bounds-indent_at-start
 slice_bounds-indent_at-start c =
-    let h = (nearness _ _ _ (sym c.is_near.ensures ∙ c.if-not-is_near.false)).place in search rules
+    let h = (near-front _ _ _ (sym c.is_near.ensures ∙ c.if-not-is_near.false)).place in search rules
 
 pub planned-p-requires : goal.planned-p-requires
 planned-p-requires c =
-    let f = nearness _ _ _ (sym c.is_near.ensures ∙ c.if-not-is_near.false) in
+    let near = sym c.is_near.ensures ∙ c.if-not-is_near.false in
+    let f = near-front _ _ _ near in
     let i = rw from at c.indent_at-i.ensures.part_value in
     record {
       place_in_bounds = f.place;
-      inner_fits = f.innermost;
+      inner_fits = near-inner _ _ _ near;
       indent_fits = rw i (indent-fit c.args.doc.now c.args.f.place c.args.f.held f.place f.held);
     }
 
 pub carried_out-requires : goal.carried_out-requires
 carried_out-requires c =
-    let f = nearness _ _ _ (sym c.is_near.ensures ∙ c.if-not-is_near.false) in
-    let r = room _ _ _ _ _ _ c.if-doc-gt-MAX_DOCUMENT.false f c.planned-p.ensures in
+    let f = near-front _ _ _ (sym c.is_near.ensures ∙ c.if-not-is_near.false) in
+    let r = room _ _ _ _ _ c.if-doc-gt-MAX_DOCUMENT.false f c.planned-p.ensures in
     record { depth_le_max_open = r.depth; pass_bound = r.place; lines_bound = r.line; says_bound = r.text }
 
 pub returns : goal.returns

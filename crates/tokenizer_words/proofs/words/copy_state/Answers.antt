@@ -1,12 +1,7 @@
 -- What is held is read before the words are copied over.
-use mathlib.Core.Path.{sym, ap, ◌∙◌}
-use lib.Seq.{length-take-le}
+use mathlib.Core.Path.{ap, ◌∙◌}
 use Rattle.tokenizer_words.specs.Words.{pasted_in, held_words, state_in}
 use Rattle.tokenizer_words.proofs.words.copy_state.Goals as goal
-
-pub slice_bounds-paste-end : goal.slice_bounds-paste-end
-slice_bounds-paste-end c =
-    sym (length-take-le 137 c.args.src.now c.requires)
 
 pub returns : goal.returns
 unfolding state_in

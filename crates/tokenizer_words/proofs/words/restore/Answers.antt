@@ -1,14 +1,11 @@
 -- Fit, and then copied, where there is room: proofs/Restoring shows that this stores the state.
-use mathlib.Core.Path.{refl, sym, ◌∙◌}
+use mathlib.Core.Path.{sym, ◌∙◌}
 use borrow.Author.Tests.{lt-leb}
 use Rattle.text.proofs.Cases.{and_left}
 use Rattle.tokenizer_words.specs.Words.{stored_in, readable}
 use Rattle.tokenizer_words.proofs.Storing.{has-137, stored-137}
 use Rattle.tokenizer_words.proofs.Restoring.{restored}
 use Rattle.tokenizer_words.proofs.words.restore.Goals as goal
-
-pub returns-then-not-is_fit : goal.returns-then-not-is_fit
-returns-then-not-is_fit c = record { value = sym (sym c.is_fit.ensures ∙ c.if-not-is_fit.true); dst_after = refl }
 
 pub returns-then-dst-lt137 : goal.returns-then-dst-lt137
 unfolding stored_in

@@ -3,7 +3,7 @@ use mathlib.Core.Path.{ap, ◌∙◌}
 use Rattle.std.specs.Prelude.{Err}
 use native.Mathlib.Omega.{arith}
 use Rattle.unescape_pieces.proofs.Ends.{shows_more}
-use Rattle.unescape.proofs.Delivery.{short-answered, text-fits, text-answered, fault-lies, fault-answered}
+use Rattle.unescape.proofs.Delivery.{short-answered, text-answered, fault-lies, fault-answered}
 use Rattle.unescape.proofs.tokens.rewrite.Goals as goal
 
 pub refused-requires : goal.refused-requires
@@ -15,9 +15,6 @@ returns-in-Err c = let p = fault-answered c.args.cursor c.args.out.now c.args.fr
 pub returns-then-out-n : goal.returns-then-out-n
 returns-then-out-n c =
     let p = short-answered c.args.cursor c.args.out.now c.args.from c.args.line c.in-Ok.ensures c.if-out-n.true in record { value = ap Err c.from.ensures ∙ p.0; out_after = p.1 }
-
-pub write-requires : goal.write-requires
-write-requires c = text-fits c.args.cursor c.args.out.now c.args.from c.args.line c.in-Ok.ensures c.if-out-n.false
 
 pub returns : goal.returns
 returns c =

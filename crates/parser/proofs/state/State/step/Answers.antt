@@ -11,7 +11,7 @@ returns-then-not-fits c =
     c.refused-then-not-fits.ensures ∙ sym (unfit _ _ c.if-doc-gt-MAX_DOCUMENT.false (sym c.fits.ensures ∙ c.if-not-fits.true))
 
 pub returns-then-self : goal.returns-then-self
-returns-then-self c = sym (ended _ _ c.if-doc-gt-MAX_DOCUMENT.false (sym c.fits.ensures ∙ c.if-not-fits.false) c.if-self.true)
+returns-then-self c = c.ended.ensures ∙ sym (ended _ _ c.if-doc-gt-MAX_DOCUMENT.false (sym c.fits.ensures ∙ c.if-not-fits.false) c.if-self.true)
 
 pub returns : goal.returns
 returns c =

@@ -17,7 +17,7 @@ returns-in-Says c =
 pub returns-in-End : goal.returns-in-End
 unfolding step_with
 returns-in-End c =
-    rw (← c.innermost.ensures, sym c.rule.ensures ∙ c.in-End.is)
+    rw (c.ended.ensures, ← c.innermost.ensures, sym c.rule.ensures ∙ c.in-End.is)
 
 pub returns-in-Unfit : goal.returns-in-Unfit
 unfolding step_with
