@@ -14,7 +14,6 @@ use Rattle.tokenizer_rows.specs.Rows.{rows_of, rows_in, token_in}
 use Rattle.tokenizer_words.specs.Words.{flag, held_words, part_words, front_words, words_of, stored_in, parts_in, state_in, readable, fresh_in}
 use Rattle.parser_words.specs.ParserWords.{
   section_words,
-  kept_words,
   middle_words,
   parser_words,
   sort_in,
@@ -48,7 +47,6 @@ unfolding
     step_of
     fresh
     section_words
-    kept_words
     middle_words
     parser_words
     sort_in

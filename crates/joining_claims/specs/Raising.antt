@@ -38,11 +38,12 @@ raise_token l n (MultilineHint m p) = MultilineHint (l + m) (shifted_by n p)
 raise_token l n (MultilineValue m i p) = MultilineValue (l + m) (shifted_by n i) (shifted_by n p)
 raise_token l n (NoValue m) = NoValue (l + m)
 
--- an answer, the tokenizer's or the parser's
+-- a token, or a refusal with its line
 abbrev pub raise_said : ℕ → ℕ → Result Token SyntaxError → Result Token SyntaxError
 raise_said l n (Ok t) = Ok (raise_token l n t)
 raise_said l n (Err e) = Err (error e.refusal (l + e.line))
 
+-- an answer, the tokenizer's or the parser's
 unfoldable pub raise : ℕ → ℕ → Answer → Answer
 raise l n None = None
 raise l n (Some r) = Some (raise_said l n r)

@@ -13,7 +13,7 @@ use Rattle.std.specs.Prelude.{Option, Some, None}
 use Rattle.parser_rules.specs.Numbers.{number_of_sort, awaited_number, awaited_line}
 use Rattle.tokenizer.specs.Said.{token_of}
 use Rattle.tokenizer.specs.declared.said.Said.{Said}
-use Rattle.tokenizer_rows.specs.Rows.{row_of, said_in, token_in}
+use Rattle.tokenizer_rows.specs.Rows.{row_of, row_by, said_in, token_in}
 use Rattle.tokenizer_rows.proofs.Back.{kinds}
 use Rattle.parser_words.specs.Claims.{KeepsNone}
 use Rattle.tokenizer_words.proofs.Slots.{words-137}
@@ -30,7 +30,7 @@ use Rattle.parser_rules.specs.declared.ruling.Kept.TheVariants as kept
 use Rattle.parser_rules.specs.declared.ruling.Section.{Section}
 use Rattle.parser.specs.declared.state.State.{State}
 use Rattle.tokenizer_words.specs.Words.{flag, words_of, state_in}
-use Rattle.parser_words.specs.ParserWords.{section_words, kept_words, middle_words, parser_words, sort_in, sections_in, awaited_in, kept_in, parser_in}
+use Rattle.parser_words.specs.ParserWords.{section_words, said_of, middle_words, parser_words, sort_in, sections_in, awaited_in, kept_in, parser_in}
 
 pub not-0 : (t : Token) → eqb (token_values t).number 0 ≡ false
 not-0 t = ne_eqb (token_values t).number 0 (λ e. let k = (kinds t).0 in omega arith)
@@ -39,18 +39,18 @@ pub not-11 : (t : Token) → eqb (token_values t).number 11 ≡ false
 not-11 t = ne_eqb (token_values t).number 11 (λ e. let k = (kinds t).1 in omega arith)
 
 -- the first six words of its row are enough for a token that carries no line
-six-back : (t : Token) (r : List ℕ) → (token_values t).opened ≡ 0 → token_in (take 6 (row_of (token_values t) ++ r)) ≡ t
+six-back : (t : Token) → (token_values t).opened ≡ 0 → token_in (take 6 (row_of (token_values t))) ≡ t
 unfolding token_in token_of token_values
-six-back (token.Newline l) r e = refl
-six-back (token.Comment l p) r e = refl
-six-back (token.Indent l) r e = refl
-six-back (token.Outdent l o) r e = ap (token.Outdent l) (sym e)
-six-back (token.ListItem l) r e = refl
-six-back (token.MapKey l p) r e = refl
-six-back (token.Value l p) r e = refl
-six-back (token.MultilineHint l p) r e = refl
-six-back (token.MultilineValue l i p) r e = refl
-six-back (token.NoValue l) r e = refl
+six-back (token.Newline l) e = refl
+six-back (token.Comment l p) e = refl
+six-back (token.Indent l) e = refl
+six-back (token.Outdent l o) e = ap (token.Outdent l) (sym e)
+six-back (token.ListItem l) e = refl
+six-back (token.MapKey l p) e = refl
+six-back (token.Value l p) e = refl
+six-back (token.MultilineHint l p) e = refl
+six-back (token.MultilineValue l i p) e = refl
+six-back (token.NoValue l) e = refl
 
 -- and what is read from them carries none
 by-none : (s : Said) → s.opened ≡ 0 → (token_values (token_of s)).opened ≡ 0
@@ -69,11 +69,11 @@ reads-none w =
     on-cond KeepsNone (eqb (get_or x 0 0) 0) (λ _. tt) (λ _. on-cond KeepsNone (eqb (get_or x 0 0) 11) (λ _. tt)
     (λ _. by-none (said_in x) (get_or-eq_default x 0 (omega (arith, length-take 6 (drop 140 w))))))
 
-kept_back : (k : Kept) (r : List ℕ) → KeepsNone k → kept_in (take 6 (kept_words k ++ r)) ≡ k
-unfolding kept_in kept_words
-kept_back kept.Nothing r e = refl
-kept_back kept.End r e = refl
-kept_back (kept.Token t) r e = rw (not-0 t, not-11 t) (ap kept.Token (six-back t r e))
+kept_back : (k : Kept) → KeepsNone k → kept_in (take 6 (row_by (said_of k))) ≡ k
+unfolding kept_in
+kept_back kept.Nothing e = refl
+kept_back kept.End e = refl
+kept_back (kept.Token t) e = rw (not-0 t, not-11 t) (ap kept.Token (six-back t e))
 
 sort-back : (s : Option Sort) → sort_in (number_of_sort s) ≡ s
 unfolding sort_in
@@ -94,24 +94,6 @@ awaited-back awaited.Nothing = refl
 awaited-back (awaited.Value l) = refl
 awaited-back (awaited.Multiline l) = refl
 
-count_at : (k : Kept) (n : ℕ) (x : List ℕ) → get_or (kept_words k ++ (n ∷ x)) 7 0 ≡ n
-unfolding kept_words
-count_at kept.Nothing n x = refl
-count_at kept.End n x = refl
-count_at (kept.Token t) n x = refl
-
-past-8 : (k : Kept) (n : ℕ) (x : List ℕ) → drop 8 (kept_words k ++ (n ∷ x)) ≡ x
-unfolding kept_words
-past-8 kept.Nothing n x = refl
-past-8 kept.End n x = refl
-past-8 (kept.Token t) n x = refl
-
--- the middle, word by word
-middle-then : (s : State) (x : List ℕ)
-    → middle_words s ++ x ≡ flag s.refused ∷ awaited_number s.awaited ∷ awaited_line s.awaited ∷ (kept_words s.kept ++ (s.count ∷ x))
-unfolding middle_words kept_words
-middle-then s x = refl
-
 module _ (s : State) (r : List ℕ) (e : length s.tokenizer.indents ≡ 64) where
   -- the words of a state, and others behind them
   pub all_words : parser_words s ++ r ≡ words_of s.tokenizer ++ (middle_words s ++ (section_words s.sections ++ r))
@@ -123,9 +105,11 @@ module _ (s : State) (r : List ℕ) (e : length s.tokenizer.indents ≡ 64) wher
   pub behind-137 : drop 137 (parser_words s ++ r) ≡ middle_words s ++ (section_words s.sections ++ r)
   behind-137 = ap (drop 137) all_words ∙ drop_at (words_of s.tokenizer) (middle_words s ++ (section_words s.sections ++ r)) 137 (words-137 s.tokenizer e)
 
+  -- the middle, word by word
   tail : drop 137 (parser_words s ++ r)
-      ≡ flag s.refused ∷ awaited_number s.awaited ∷ awaited_line s.awaited ∷ (kept_words s.kept ++ (s.count ∷ (section_words s.sections ++ r)))
-  tail = behind-137 ∙ middle-then s (section_words s.sections ++ r)
+      ≡ flag s.refused ∷ awaited_number s.awaited ∷ awaited_line s.awaited ∷ (row_by (said_of s.kept) ++ (s.count ∷ (section_words s.sections ++ r)))
+  unfolding middle_words
+  tail = behind-137
 
   pub refused-word : get_or (parser_words s ++ r) 137 0 ≡ flag s.refused
   refused-word = sym (get_or-drop 137 (parser_words s ++ r) 0 0) ∙ ap (λ x. get_or x 0 0) tail
@@ -136,21 +120,21 @@ module _ (s : State) (r : List ℕ) (e : length s.tokenizer.indents ≡ 64) wher
   pub line_at : get_or (parser_words s ++ r) 139 0 ≡ awaited_line s.awaited
   line_at = sym (get_or-drop 137 (parser_words s ++ r) 2 0) ∙ ap (λ x. get_or x 2 0) tail
 
-  pub kept_at : drop 140 (parser_words s ++ r) ≡ kept_words s.kept ++ (s.count ∷ (section_words s.sections ++ r))
+  pub kept_at : drop 140 (parser_words s ++ r) ≡ row_by (said_of s.kept) ++ (s.count ∷ (section_words s.sections ++ r))
   kept_at = sym (drop-drop 3 137 (parser_words s ++ r)) ∙ ap (drop 3) tail
 
   pub count_word : get_or (parser_words s ++ r) 147 0 ≡ s.count
-  count_word = sym (get_or-drop 140 (parser_words s ++ r) 7 0) ∙ ap (λ x. get_or x 7 0) kept_at ∙ count_at s.kept s.count _
+  count_word = sym (get_or-drop 140 (parser_words s ++ r) 7 0) ∙ ap (λ x. get_or x 7 0) kept_at
 
   pub sections-at : drop 148 (parser_words s ++ r) ≡ section_words s.sections ++ r
-  sections-at = sym (drop-drop 8 140 (parser_words s ++ r)) ∙ ap (drop 8) kept_at ∙ past-8 s.kept s.count _
+  sections-at = sym (drop-drop 8 140 (parser_words s ++ r)) ∙ ap (drop 8) kept_at
 
   -- the state is read back
   pub parser-back : length s.sections ≡ 65 → KeepsNone s.kept → parser_in (parser_words s ++ r) ≡ s
   unfolding parser_in
   parser-back f q =
       let t : state_in (parser_words s ++ r) ≡ s.tokenizer = ap state_in all_words ∙ state-back s.tokenizer _ e in
-      let k : kept_in (take 6 (drop 140 (parser_words s ++ r))) ≡ s.kept = ap (λ x. kept_in (take 6 x)) kept_at ∙ kept_back s.kept _ q in
+      let k : kept_in (take 6 (drop 140 (parser_words s ++ r))) ≡ s.kept = ap (λ x. kept_in (take 6 x)) kept_at ∙ kept_back s.kept q in
       let a : awaited_in (get_or (parser_words s ++ r) 138 0) (get_or (parser_words s ++ r) 139 0) ≡ s.awaited =
       (λ j. awaited_in (number_at j) (line_at j)) ∙ awaited-back s.awaited in
       let b : eqb (get_or (parser_words s ++ r) 137 0) 1 ≡ s.refused = ap (λ x. eqb x 1) refused-word ∙ eqb-flag s.refused in

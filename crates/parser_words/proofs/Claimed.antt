@@ -26,18 +26,17 @@ use Rattle.tokenizer_words.specs.Words.{flag, held_words, part_words, front_word
 use Rattle.tokenizer_words.proofs.Claimed.{flag-tells, states-back as tokenizers-back}
 use Rattle.std.specs.Prelude.{Option, Some, None}
 use Rattle.parser_rules.specs.Numbers.{number_of_sort, awaited_number}
-use Rattle.parser_words.specs.ParserWords.{section_words, kept_words, middle_words, parser_words, are_sorts, parser_readable}
+use Rattle.parser_words.specs.ParserWords.{section_words, said_of, middle_words, parser_words, are_sorts, parser_readable}
 use Rattle.parser_words.specs.Claims.{Slots, StatesBack, AnswerRows, AnswerLists, Layout}
 use Rattle.parser_words.proofs.Sections.{section-words-length}
 use Rattle.parser_words.proofs.Back.{all_words, refused-word, number_at, kept_at, sections-at, parser-back}
 
 -- Each word that is tested stands for something
 
-kept-tells : (k : Kept) (r : List ℕ) → leb (get_or (kept_words k ++ r) 0 0) 11 ≡ true
-unfolding kept_words
-kept-tells kept.Nothing r = refl
-kept-tells kept.End r = refl
-kept-tells (kept.Token t) r = let k = (kinds t).1 in le-leb (token_values t).number 11 (omega arith)
+kept-tells : (k : Kept) → leb (said_of k).number 11 ≡ true
+kept-tells kept.Nothing = refl
+kept-tells kept.End = refl
+kept-tells (kept.Token t) = let k = (kinds t).1 in le-leb (token_values t).number 11 (omega arith)
 
 sort-tells : (s : Option Sort) → leb (number_of_sort s) 2 ≡ true
 sort-tells None = refl
@@ -57,7 +56,7 @@ awaited-tells (awaited.Value l) = refl
 awaited-tells (awaited.Multiline l) = refl
 
 module _ (s : State) (r : List ℕ) (h : Slots s) where
-  kept_word : get_or (parser_words s ++ r) 140 0 ≡ get_or (kept_words s.kept ++ (s.count ∷ (section_words s.sections ++ r))) 0 0
+  kept_word : get_or (parser_words s ++ r) 140 0 ≡ (said_of s.kept).number
   kept_word = sym (get_or-drop 140 (parser_words s ++ r) 0 0) ∙ ap (λ x. get_or x 0 0) (kept_at s r h.0)
 
   long : 278 ≤ length (parser_words s ++ r)
@@ -74,7 +73,7 @@ module _ (s : State) (r : List ℕ) (h : Slots s) where
         ap readable (all_words s r h.0) ∙ (tokenizers-back s.tokenizer _ h.0).reads,
         ap (λ x. leb x 1) (refused-word s r h.0) ∙ flag-tells s.refused,
         ap (λ x. leb x 2) (number_at s r h.0) ∙ awaited-tells s.awaited,
-        ap (λ x. leb x 11) kept_word ∙ kept-tells s.kept _,
+        ap (λ x. leb x 11) kept_word ∙ kept-tells s.kept,
         ap (are_sorts 65) (sections-at s r h.0) ∙ sections-tell s.sections r 65 h.1.0,
       )
 
@@ -88,5 +87,5 @@ pub answer-lists : AnswerLists
 answer-lists = lists-tell values_of values-injective
 
 pub layout : Layout
-unfolding fresh fresh_tokenizer flag held_words part_words front_words words_of section_words kept_words middle_words parser_words token_values
+unfolding fresh fresh_tokenizer flag held_words part_words front_words words_of section_words middle_words parser_words token_values
 layout = record { begins = refl; token_kept = refl; end_kept = refl }

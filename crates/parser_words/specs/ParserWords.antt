@@ -34,9 +34,6 @@ said_of kept.Nothing = said_by (bare 0 0)
 said_of kept.End = said_by (bare 11 0)
 said_of (kept.Token t) = said_by (token_values t)
 
-unfoldable pub kept_words : Kept → List ℕ
-kept_words k = row_by (said_of k)
-
 -- between the tokenizer's words and the sections', eleven words: refused or not, the number and the line of what is
 -- awaited, what is kept, and how many sections are open
 abbrev pub middle_by : Bool → ℕ → ℕ → Said → ℕ → List ℕ

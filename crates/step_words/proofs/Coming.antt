@@ -28,7 +28,8 @@ use Rattle.parser_rules.specs.declared.ruling.Section.{Section}
 use Rattle.tokenizer_words.specs.Words.{words_of, state_in}
 use Rattle.tokenizer_words.proofs.Standing.{slots-64}
 use Rattle.tokenizer_words.proofs.Slotted.{step-slots}
-use Rattle.parser_words.specs.ParserWords.{section_words, kept_words}
+use Rattle.parser_words.specs.ParserWords.{section_words, said_of}
+use Rattle.tokenizer_rows.specs.Rows.{row_by}
 use Rattle.front_words.specs.Fronts.{committed}
 use Rattle.step_words.specs.Stepping.{kept_number, came_in, innermost_in, sort_at, opened_at}
 use Rattle.step_words.specs.declared.step.Layer.TheVariants.{Parser}
@@ -90,8 +91,8 @@ module _ (d w : List ℕ) (l : length d ≤ 16777216) (h : 137 ≤ length w) (f 
     word : (y : List ℕ) (i : ℕ) → drop 140 w ≡ y → get_or w (140 + i) 0 ≡ get_or y i 0
     word y i e = sym (get_or-drop 140 w i 0) ∙ ap (λ z. get_or z i 0) e
 
-    pub comes : (k : Kept) → KeepsNone k → drop 140 w ≡ kept_words k ++ x → Comes k
-    unfolding kept_words values_of
+    pub comes : (k : Kept) → KeepsNone k → drop 140 w ≡ row_by (said_of k) ++ x → Comes k
+    unfolding values_of
     comes kept.Nothing n e =
         let q : came_in Parser d w ≡ ahead_of d (state_in w) = unfold came_in kept_number in rw (word _ 0 e) in
         record {
