@@ -1,6 +1,6 @@
 -- Law: document 01, 'Look-up and listing': tokens in its numbers, kinds 1 to 10, each with its line and its parts; a
 -- refusal is 256 and its number, End 0. And a token's line and name, as 'What stays and what is written anew' has them.
-use Rattle.std.specs.Prelude.{ℕ, ◌+◌, List, Option, Some, None, Result, Ok, Err}
+use Rattle.std.specs.Prelude.{ℕ, ◌+◌, List, ◌++◌, length, take, replicate, min, Option, Some, None, Result, Ok, Err}
 use Rattle.text.specs.Ascii.{ascii}
 use Rattle.text.specs.declared.bytes.Part.{Part}
 use Rattle.tokenizer.specs.declared.token.Token.{Token}
@@ -16,6 +16,7 @@ use Rattle.tokenizer.specs.declared.token.Token.TheVariants.{
   MultilineValue,
   NoValue,
 }
+use Rattle.tokenizer.specs.declared.token.Name.{Name}
 use Rattle.text.specs.Numbers.{number_of}
 use Rattle.text.specs.declared.refusals.SyntaxError.{SyntaxError}
 
@@ -88,3 +89,7 @@ name_of (Value l p) = ascii "value"
 name_of (MultilineHint l p) = ascii "multiline hint"
 name_of (MultilineValue l i p) = ascii "multiline value"
 name_of (NoValue l) = ascii "no value"
+
+-- the first 16 bytes with zeros after them, and how many they are
+unfoldable pub padded : List ℕ → Name
+padded s = record { bytes = take 16 (s ++ replicate 16 0); len = min 16 (length s) }

@@ -1,5 +1,5 @@
 ghost use Rattle.std.specs.Prelude.{◌≡◌};
-ghost use Rattle.tokenizer.specs.Token.{line_of, name_of};
+ghost use Rattle.tokenizer.specs.Token.{line_of, name_of, padded};
 
 use text::{Part, SyntaxError};
 
@@ -23,6 +23,23 @@ pub enum Token {
 // What a step answers, as the Rust's iterator does: nothing at the end, a token, or a refusal with its line.
 pub type Answer = Option<Result<Token, SyntaxError>>;
 
+// A name's bytes, zeros after them, and how many they are, as document 01 has a name.
+#[derive(Clone, Copy)]
+pub struct Name {
+    pub bytes: [u8; 16],
+    pub len: usize,
+}
+
+// The first 16 bytes of s, or all of them with zeros after.
+fn name_from(s: &[u8]) -> Name
+    ensures { result ≡ padded s.now }
+{
+    let mut bytes = [0u8; 16];
+    let len = s.len().min(16);
+    bytes[..len].copy_from_slice(&s[..len]);
+    Name { bytes, len }
+}
+
 impl Token {
     // The line on which the token starts.
     #[tactic(auto, unfolding(crate::specs::Token::line_of))]
@@ -45,20 +62,20 @@ impl Token {
 
     // What the token is called in messages.
     #[tactic(auto, unfolding(crate::specs::Token::name_of))]
-    pub fn name(self) -> &'static [u8]
-        ensures { result.now ≡ name_of self }
+    pub fn name(self) -> Name
+        ensures { result ≡ padded (name_of self) }
     {
         match self {
-            Token::Newline(_) => b"newline",
-            Token::Comment(_, _) => b"comment",
-            Token::Indent(_) => b"indent",
-            Token::Outdent(_, _) => b"outdent",
-            Token::ListItem(_) => b"list item",
-            Token::MapKey(_, _) => b"map key",
-            Token::Value(_, _) => b"value",
-            Token::MultilineHint(_, _) => b"multiline hint",
-            Token::MultilineValue(_, _, _) => b"multiline value",
-            Token::NoValue(_) => b"no value",
+            Token::Newline(_) => name_from(b"newline"),
+            Token::Comment(_, _) => name_from(b"comment"),
+            Token::Indent(_) => name_from(b"indent"),
+            Token::Outdent(_, _) => name_from(b"outdent"),
+            Token::ListItem(_) => name_from(b"list item"),
+            Token::MapKey(_, _) => name_from(b"map key"),
+            Token::Value(_, _) => name_from(b"value"),
+            Token::MultilineHint(_, _) => name_from(b"multiline hint"),
+            Token::MultilineValue(_, _, _) => name_from(b"multiline value"),
+            Token::NoValue(_) => name_from(b"no value"),
         }
     }
 }

@@ -15,12 +15,17 @@ pub fn trimming_agrees(s: &[u8], numbers: Numbers<'_>, which: Dropped) -> bool {
     numbers.are_all(&[p.start, p.end])
 }
 
-// The text is the name of a token whose kind is the number.
+// The text is the name of a token whose kind is the number. A name has zeros behind it.
 pub fn name_agrees(s: &[u8], mut numbers: Numbers<'_>) -> bool {
     let Some(kind) = numbers.next() else {
         return false;
     };
-    numbers.rest.is_empty() && token_in(&[kind, 1, 0, 0, 0, 0]).name() == s
+    let name = token_in(&[kind, 1, 0, 0, 0, 0]).name();
+    let bytes = name.bytes;
+    let Some((front, behind)) = bytes.split_at_checked(name.len) else {
+        return false;
+    };
+    numbers.rest.is_empty() && front == s && behind.iter().all(|b| *b == 0)
 }
 
 // Whether the numbers are the answer for the token and, where its text is written, the bytes of this, which is no
