@@ -40,3 +40,8 @@ paired s c p e n f k l b i h o =
     ∙ ap (λ x. get_or (get_or x (2 * k + b) []) j 0) e
     ∙ chunk 8 (length s / 8) s (2 * k + b) j 0 (omega arith) q
     ∙ ap (λ m. get_or s m 0) (omega (arith, o)))
+
+-- the word k
+pub single : (s : List ℕ) (c : List (List ℕ)) → c ≡ first_chunks 8 (length s / 8) s → (k : ℕ) → 8 * k + 8 ≤ length s
+    → from_le_bytes w64 (get_or c k []) ≡ word_of (byte_at s (8 * k)) 8
+single s c e k h = word s _ (8 * k) (λ j q. ap (λ x. get_or (get_or x k []) j 0) e ∙ chunk 8 (length s / 8) s k j 0 (omega arith) q)

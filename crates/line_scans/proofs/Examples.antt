@@ -3,8 +3,9 @@ use Prim.Native.Nat.{ℕ}
 use Prim.Native.Char.{code as byte}
 use mathlib.Core.Path.{◌≡◌, refl}
 use mathlib.Core.List.{List, [], ◌∷◌}
+use lib.ListN.{replicate}
 use Rattle.text_scans.specs.Eights.{passing}
-use Rattle.line_scans.specs.Words.{line_sixteens}
+use Rattle.line_scans.specs.Words.{line_sixteens, space_eights}
 
 -- sixteen bytes, of which the fourth is b and the twelfth c, and a break behind them
 abbrev around : ℕ → ℕ → List ℕ
@@ -25,3 +26,12 @@ lf = refl
 neither : line_sixteens (around (byte "a") (byte "a")) ≡ 16
 unfolding passing
 neither = refl
+
+-- a space is passed, a tab is not; the ninth byte is not in a whole eight
+tab : space_eights (byte " " ∷ byte "\t" ∷ around (byte " ") (byte " ")) ≡ 1
+unfolding passing
+tab = refl
+
+nine : space_eights (replicate 9 (byte " ")) ≡ 8
+unfolding passing
+nine = refl

@@ -1,18 +1,71 @@
 -- The hits of a word. Every operation goes byte by byte, since no carry leaves a byte, and of one byte it is a table of 256
--- rows; so counting trailing zero bits finds the first CR or LF.
-use Prim.Native.Nat.{ℕ, zero, suc, ◌+◌, ◌*◌, ◌/◌, ◌^◌, ◌<◌}
-use mathlib.Core.Path.{◌≡◌, refl, sym, ap, ◌∙◌}
+-- rows; so the hits are again a word of bytes, and counting its trailing zero bits finds the first that is not 0.
+use Prim.Native.Nat.{ℕ, zero, suc, ◌+◌, ◌*◌, ◌/◌, ◌%◌, ◌^◌, ◌<◌}
+use Prim.Native.Char.{code as byte}
+use mathlib.Core.Path.{◌≡◌, refl, sym, ap, ap₂, ◌∙◌}
+use mathlib.Core.List.{List}
 use mathlib.Core.Bool.{Bool, true, false, cond}
 use native.Mathlib.Nat.{add-zero, zero-add, suc-add, mul-one}
 use native.Mathlib.Omega.{arith}
-use lib.Arith.{digits_mod}
-use lib.Dec.{eqb, eqb-zero-suc, eqb-suc-zero, eqb-suc-suc}
-use lib.Bits.{shifted_half, shifted_even, bit_and, bit_xor, and_block, or_block, xor_block, and_lt, and_le_r, or_lt, xor_lt}
+use lib.Dec.{eqb}
+use lib.ListN.{get_or}
+use lib.Bits.{shifted_half, shifted_even, bit_and, bit_xor, and_block, or_block, xor_block, and_le_l, and_le_r, and_lt, or_lt, xor_lt, xor_self, xor_add_and}
 use lib.Count.{count_trailing_zeros}
-use borrow.Author.Tests.{eqb-true, ne_eqb}
+use borrow.Author.Tests.{eqb-true, eqb-false, ne_eqb}
 use Rattle.text_scans.specs.Eights.{passing}
 use Rattle.text_scans.proofs.Passing.{passes}
-use Rattle.line_scans.specs.Words.{word_of, each, marked_in, hits_of, in_line}
+use Rattle.line_scans.specs.Words.{byte_at, word_of, each, marked_in, hits_of, in_line, is_space}
+
+-- the first n of some bytes, if these are
+abbrev Bytes : (ℕ → ℕ) → Type 0
+Bytes f = (i : ℕ) → f i < 2 ^ 8
+
+-- A lowest byte that is not 0 has fewer than eight trailing zeros, whatever stands above it; one that is 0 has eight.
+below : (j k w b : ℕ) → b < 2 ^ j → 0 < b → count_trailing_zeros (j + k) (w * 2 ^ j + b) < j
+unfolding count_trailing_zeros
+below zero k w b l h = absurd (omega arith)
+below (suc j) k w b l h = by (b % 2) refl (below j k w (b / 2) (omega arith))
+  where
+    m : ℕ
+    m = w * 2 ^ suc j
+
+    odd : (m + b) % 2 ≡ b % 2
+    odd = omega (arith, shifted_even w j)
+
+    half : (m + b) / 2 ≡ w * 2 ^ j + b / 2
+    half = omega (arith, shifted_even w j, shifted_half w j)
+
+    by : (d : ℕ) → b % 2 ≡ d → (0 < b / 2 → count_trailing_zeros (j + k) (w * 2 ^ j + b / 2) < j) → count_trailing_zeros (suc j + k) (m + b) < suc j
+    by zero q f = rw (suc-add j k, odd, q, half) (let g = f (omega (arith, q)) in omega arith)
+    by (suc d) q f = rw (suc-add j k, odd, q) (omega arith)
+
+pub some : (w : ℕ) → w < 2 ^ 64 → 0 < w → count_trailing_zeros 64 w / 8 < 8
+some w l h = let g : count_trailing_zeros 64 w < 64 = rw zero-add at (below 64 0 0 w l h) in omega arith
+
+zeros : (j k w : ℕ) → count_trailing_zeros (j + k) (w * 2 ^ j) ≡ j + count_trailing_zeros k w
+unfolding count_trailing_zeros
+zeros zero k w = rw (zero-add k, mul-one w, zero-add (count_trailing_zeros k w))
+zeros (suc j) k w = rw (suc-add j k, shifted_even w j, shifted_half w j, zeros j k w) (sym (suc-add j (count_trailing_zeros k w)))
+
+-- the first byte that is not 0; n where each is
+pub first : (f : ℕ → ℕ) (n : ℕ) → Bytes f → count_trailing_zeros (8 * n) (word_of f n) / 8 ≡ passing (λ i. eqb (f i) 0) n
+unfolding word_of passing count_trailing_zeros
+first f zero h = refl
+first f (suc n) h = by (f 0) refl (first (λ i. f (suc i)) n (λ i. h (suc i)))
+  where
+    w : ℕ
+    w = word_of (λ i. f (suc i)) n
+
+    z : 8 * suc n ≡ 8 + 8 * n
+    z = omega arith
+
+    by : {m : ℕ} (b : ℕ) → f 0 ≡ b → count_trailing_zeros (8 * n) w / 8 ≡ m → count_trailing_zeros (8 * suc n) (w * 2 ^ 8 + f 0) / 8 ≡ cond (eqb (f 0) 0) (suc m) 0
+    by zero q e =
+        let g : (8 + count_trailing_zeros (8 * n) w) / 8 ≡ suc (count_trailing_zeros (8 * n) w / 8) = omega arith in
+        rw (z, q, add-zero (w * 2 ^ 8), zeros 8 (8 * n) w) (g ∙ ap suc e)
+    by (suc b) q e =
+        let g = below 8 (8 * n) w (f 0) (h 0) (omega (arith, q)) in
+        rw (z, ne_eqb (f 0) 0 (λ r. omega (arith, q))) (omega arith)
 
 -- the row of a byte: 80 where it is CR or LF
 abbrev row : ℕ → Bool
@@ -57,44 +110,59 @@ hits-block n w b l =
     )
     (xor_block 8 _ (each n 0x80) (bit_and both 0x80) 0x80 (omega (arith, and_le_r both 0x80)) (omega arith))
 
--- trailing zeros: behind j bits that are 0, and at a bit that is 1
-zeros : (j k w : ℕ) → count_trailing_zeros (j + k) (w * 2 ^ j) ≡ j + count_trailing_zeros k w
-unfolding count_trailing_zeros
-zeros zero k w = rw (zero-add k, mul-one w, zero-add (count_trailing_zeros k w))
-zeros (suc j) k w = rw (suc-add j k, shifted_even w j, shifted_half w j, zeros j k w) (sym (suc-add j (count_trailing_zeros k w)))
+-- the hits of a word of bytes, as bytes
+abbrev hit_at : (ℕ → ℕ) → ℕ → ℕ
+hit_at f i = cond (in_line (f i)) 0 0x80
 
-odd : (k w : ℕ) → count_trailing_zeros (suc k) (w * 2 + 1) ≡ 0
-unfolding count_trailing_zeros
-odd k w = rw (digits_mod w {m = 2} {r = 1} (omega arith))
+hit-lt : (t : Bool) → cond t 0 0x80 < 2 ^ 8
+hit-lt true = omega arith
+hit-lt false = omega arith
 
--- one byte more, the lowest, without a hit or with one
-one : (t : Bool) (k w m : ℕ) → count_trailing_zeros k w / 8 ≡ m → count_trailing_zeros (8 + k) (w * 2 ^ 8 + cond t 0 0x80) / 8 ≡ cond t (suc m) 0
-one true k w m e =
-    let f : (8 + count_trailing_zeros k w) / 8 ≡ suc (count_trailing_zeros k w / 8) = omega arith in
-    rw (add-zero (w * 2 ^ 8), zeros 8 k w) (f ∙ ap suc e)
-one false k w m e =
-    let f : w * 2 ^ 8 + 128 ≡ (w * 2 + 1) * 2 ^ 7 = omega arith in
-    let g : 8 + k ≡ 7 + suc k = omega arith in
-    rw (f, g, zeros 7 (suc k) (w * 2 + 1), odd k w)
+none : (t : Bool) → eqb (cond t 0 0x80) 0 ≡ t
+none true = refl
+none false = refl
 
--- the first CR or LF of n bytes; n where there is none
-pub first-hit : (f : ℕ → ℕ) (n : ℕ) → ((i : ℕ) → f i < 2 ^ 8) → count_trailing_zeros (8 * n) (hits_of n (word_of f n)) / 8 ≡ passing (λ i. in_line (f i)) n
-unfolding word_of passing count_trailing_zeros
-first-hit f zero h = refl
-first-hit f (suc n) h =
-    let z : 8 * suc n ≡ 8 + 8 * n = omega arith in
-    rw (z, hits-block n (word_of (λ i. f (suc i)) n) (f 0) (h 0), hit (f 0) (h 0))
-    (one (in_line (f 0)) (8 * n) _ _ (first-hit (λ i. f (suc i)) n (λ i. h (suc i))))
+hits : (f : ℕ → ℕ) (n : ℕ) → Bytes f → hits_of n (word_of f n) ≡ word_of (hit_at f) n
+unfolding word_of each
+hits f zero h = refl
+hits f (suc n) h =
+    hits-block n (word_of (λ i. f (suc i)) n) (f 0) (h 0)
+    ∙ ap₂ (λ x y. x * 2 ^ 8 + y) (hits (λ i. f (suc i)) n (λ i. h (suc i))) (hit (f 0) (h 0))
 
--- no hit at all: one byte more, then n
-none : (t : Bool) (h m n : ℕ) → eqb h 0 ≡ eqb m n → eqb (h * 2 ^ 8 + cond t 0 0x80) 0 ≡ eqb (cond t (suc m) 0) (suc n)
-none true zero m n e = e ∙ sym (eqb-suc-suc m n)
-none true (suc h) m n e = ne_eqb (suc h * 2 ^ 8 + 0) 0 (λ q. omega arith) ∙ sym (eqb-suc-zero h) ∙ e ∙ sym (eqb-suc-suc m n)
-none false h m n e = ne_eqb (h * 2 ^ 8 + 0x80) 0 (λ q. omega arith) ∙ sym (eqb-zero-suc n)
+-- Xor with the same byte everywhere.
+xor-each : (f : ℕ → ℕ) (n c : ℕ) → Bytes f → c < 2 ^ 8 → bit_xor (word_of f n) (each n c) ≡ word_of (λ i. bit_xor (f i) c) n
+unfolding word_of each
+xor-each f zero c h l = refl
+xor-each f (suc n) c h l =
+    xor_block 8 _ (each n c) (f 0) c (h 0) l ∙ ap (λ x. x * 2 ^ 8 + bit_xor (f 0) c) (xor-each (λ i. f (suc i)) n c (λ i. h (suc i)) l)
 
-pub no_hit : (f : ℕ → ℕ) (n : ℕ) → ((i : ℕ) → f i < 2 ^ 8) → eqb (hits_of n (word_of f n)) 0 ≡ eqb (passing (λ i. in_line (f i)) n) n
-unfolding word_of passing each
-no_hit f zero h = refl
-no_hit f (suc n) h =
-    rw (hits-block n (word_of (λ i. f (suc i)) n) (f 0) (h 0), hit (f 0) (h 0))
-    (none (in_line (f 0)) _ _ n (no_hit (λ i. f (suc i)) n (λ i. h (suc i))))
+-- two bytes are the same where they differ in no bit
+same : (a b : ℕ) → eqb (bit_xor a b) 0 ≡ eqb a b
+same a b = by (eqb a b) refl
+  where
+    by : (t : Bool) → eqb a b ≡ t → eqb (bit_xor a b) 0 ≡ t
+    by true e = let q : a ≡ b = eqb-true a b e in rw (q, xor_self b)
+    by false e =
+        ne_eqb (bit_xor a b) 0 (λ q. eqb-false a b e (omega (arith, q, xor_add_and a b, and_le_l a b, and_le_r a b)))
+
+places : (t u : ℕ → Bool) (n : ℕ) → ((i : ℕ) → t i ≡ u i) → passing t n ≡ passing u n
+unfolding passing
+places t u zero e = refl
+places t u (suc n) e = ap₂ (λ b m. cond b (suc m) 0) (e 0) (places (λ i. t (suc i)) (λ i. u (suc i)) n (λ i. e (suc i)))
+
+-- The first of eight bytes that fails, in their word: by its hits, and by what differs from spaces.
+module _ (s : List ℕ) (i : ℕ) (known : (j : ℕ) → get_or s j 0 < 2 ^ 8) where
+  bytes : Bytes (byte_at s i)
+  bytes j = known (i + j)
+
+  pub first-break : {w : ℕ} → w ≡ hits_of 8 (word_of (byte_at s i) 8) → count_trailing_zeros 64 w / 8 ≡ passing (λ j. in_line (byte_at s i j)) 8
+  first-break e =
+      ap (λ x. count_trailing_zeros 64 x / 8) (e ∙ hits (byte_at s i) 8 bytes)
+      ∙ first (hit_at (byte_at s i)) 8 (λ j. hit-lt (in_line (byte_at s i j)))
+      ∙ places _ _ 8 (λ j. none (in_line (byte_at s i j)))
+
+  pub first-other : {w : ℕ} → w ≡ bit_xor (word_of (byte_at s i) 8) (each 8 (byte " ")) → count_trailing_zeros 64 w / 8 ≡ passing (λ j. is_space (byte_at s i j)) 8
+  first-other e =
+      ap (λ x. count_trailing_zeros 64 x / 8) (e ∙ xor-each (byte_at s i) 8 32 bytes (omega arith))
+      ∙ first (λ j. bit_xor (byte_at s i j) 32) 8 (λ j. xor_lt 8 (byte_at s i j) 32 (bytes j) (omega arith))
+      ∙ places _ _ 8 (λ j. same (byte_at s i j) 32)

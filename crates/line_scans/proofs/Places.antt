@@ -1,19 +1,23 @@
 -- What the functions over places need: the bytes of a word, and how far the words before the first hit have counted.
 use Prim.Native.Nat.{ℕ, zero, suc, ◌+◌, ◌*◌, ◌/◌, ◌^◌, ◌≤◌, ◌<◌}
+use Prim.Native.Char.{code as byte}
 use mathlib.Core.Path.{◌≡◌, refl, sym, ap, ◌∙◌}
-use mathlib.Core.List.{List}
+use mathlib.Core.List.{List, []}
 use mathlib.Core.Bool.{Bool, true, false, cond}
 use native.Mathlib.Nat.{lt_of_not-le, pos_of_ne-zero, min-eq_left}
 use native.Mathlib.Omega.{arith}
-use lib.Count.{count_trailing_zeros, trailing_le}
-use lib.Bits.{bit_or, and_le_l, and_le_r, or_add_and, or_zero_l}
-use lib.Dec.{eqb, ltb}
+use lib.Count.{count_trailing_zeros, trailing_le, trailing_of_zero}
+use lib.Bits.{bit_or, bit_xor, and_le_l, and_le_r, or_add_and, or_zero_l}
+use lib.Dec.{ltb}
 use lib.ListN.{length, get_or}
-use borrow.Author.Tests.{eqb-false, ne_eqb, ltb-true, ltb-false}
+use borrow.Author.Tests.{ltb-true, ltb-false}
 use Rattle.text_scans.specs.Eights.{passing}
 use Rattle.text_scans.proofs.Passing.{passing-le, passes, reaches}
-use Rattle.line_scans.specs.Words.{byte_at, word_of, hits_of, first_hit, line_at, line_len, line_sixteens}
-use Rattle.line_scans.proofs.Hits.{first-hit, no_hit}
+use Rattle.std.specs.Simd.{first_chunks}
+use Rattle.std.specs.Int.{w64, from_le_bytes}
+use Rattle.line_scans.specs.Words.{byte_at, each, first_hit, is_space, passed_by, at_most}
+use Rattle.line_scans.proofs.Chunks.{single}
+use Rattle.line_scans.proofs.Hits.{some, first-other}
 
 -- All before place i passes, and k places follow, of which the first r pass.
 module _ (t : ℕ → Bool) (n i k : ℕ) (h : i ≤ passing t n) (l : i + k ≤ n) (r : ℕ) (e : r ≡ passing (λ j. t (i + j)) k) where
@@ -44,50 +48,63 @@ hit-le a b = by (ltb (count_trailing_zeros 64 a / 8) 8)
     by true = omega (arith, trailing_le 64 a)
     by false = omega (arith, trailing_le 64 b)
 
--- No byte before place i is CR or LF.
-pub record Clean (s : List ℕ) (i : ℕ) : Type 0 where
-  pub counted : i ≤ line_len s
+-- Every byte before place i passes the test.
+pub record Clean (t : ℕ → Bool) (s : List ℕ) (i : ℕ) : Type 0 where
+  pub counted : i ≤ passed_by t s
 
-module _ {s : List ℕ} {i : ℕ} (h : Clean s i) where
-  -- the eight bytes from there on, and their hits
-  module _ (known : (j : ℕ) → get_or s j 0 < 2 ^ 8) (l : i + 8 ≤ length s) (w : ℕ) (e : w ≡ hits_of 8 (word_of (byte_at s i) 8)) where
-    places : count_trailing_zeros 64 w / 8 ≡ passing (λ j. line_at s (i + j)) 8
-    places = rw e (first-hit (byte_at s i) 8 (λ j. known (i + j)))
+-- how many of the eight bytes from place i on pass before one fails: what is found in their word
+abbrev pub Found : (ℕ → Bool) → List ℕ → ℕ → ℕ → Type 0
+Found t s i w = count_trailing_zeros 64 w / 8 ≡ passing (λ j. t (byte_at s i j)) 8
 
-    here : count_trailing_zeros 64 w / 8 < 8 → i + count_trailing_zeros 64 w / 8 ≡ line_len s
-    here = first (line_at s) (length s) i 8 h.counted l _ places
+module _ {t : ℕ → Bool} {s : List ℕ} {i : ℕ} (h : Clean t s i) (l : i + 8 ≤ length s) (w : ℕ) (e : Found t s i w) where
+  here : count_trailing_zeros 64 w / 8 < 8 → i + count_trailing_zeros 64 w / 8 ≡ passed_by t s
+  here = first (λ j. t (get_or s j 0)) (length s) i 8 h.counted l _ e
 
-    past : w ≡ 0 → Clean s (i + 8)
-    unfolding count_trailing_zeros
-    past z = record { counted = counts (line_at s) (length s) i 8 h.counted l 8 (sym (ap (λ x. count_trailing_zeros 64 x / 8) z) ∙ places) 8 (omega arith) }
+  past : 8 ≤ count_trailing_zeros 64 w / 8 → Clean t s (i + 8)
+  past q = record { counted = counts (λ j. t (get_or s j 0)) (length s) i 8 h.counted l 8 (omega (arith, e, passing-le (λ j. t (byte_at s i j)) 8)) 8 (omega arith) }
 
-    some : 0 < w → count_trailing_zeros 64 w / 8 < 8
-    some z =
-        let f = sym (no_hit (byte_at s i) 8 (λ j. known (i + j))) ∙ ap (λ x. eqb x 0) (sym e) ∙ ne_eqb w 0 (λ q. omega arith) in
-        omega (arith, places, passing-le (λ j. line_at s (i + j)) 8, eqb-false (passing (λ j. line_at s (i + j)) 8) 8 f)
+-- no bit is set in a word of eight bytes that pass
+none : (w : ℕ) → w ≡ 0 → 8 ≤ count_trailing_zeros 64 w / 8
+none w e = rw (e, trailing_of_zero 64) (omega arith)
 
--- the pair of words after k pairs, and their hits
-module _ {s : List ℕ} (k : ℕ) (h : Clean s (16 * k)) (known : (j : ℕ) → get_or s j 0 < 2 ^ 8) (l : 16 * k + 16 ≤ length s) where
-  module _ {a b : ℕ} (e : a ≡ hits_of 8 (word_of (byte_at s (16 * k)) 8)) (f : b ≡ hits_of 8 (word_of (byte_at s (16 * k + 8)) 8)) where
-    upper : a ≡ 0 → Clean s (16 * k + 8)
-    upper = past h known (omega arith) a e
+-- the pair of words after k pairs
+module _ {t : ℕ → Bool} {s : List ℕ} (k : ℕ) (h : Clean t s (16 * k)) (l : 16 * k + 16 ≤ length s) (a b : ℕ) (e : Found t s (16 * k) a) (f : Found t s (16 * k + 8) b) where
+  pub passed : bit_or a b ≡ 0 → Clean t s (16 * (k + 1))
+  passed z =
+      let u = past h (omega arith) a e (none a (both a b z).0) in
+      let c = past u (omega arith) b f (none b (both a b z).1) in
+      record { counted = omega (arith, c.counted) }
 
-    pub passed : bit_or a b ≡ 0 → Clean s (16 * (k + 1))
-    passed z =
-        let c = past (upper (both a b z).0) known (omega arith) b f (both a b z).1 in
-        record { counted = omega (arith, c.counted) }
-
-    hit : (bit_or a b ≡ 0 → ⊥) → 16 * k + first_hit a b ≡ line_len s
-    hit z = by (ltb (count_trailing_zeros 64 a / 8) 8) refl
+  -- where one fails, the count ends there
+  module _ (m : a < 2 ^ 64) (n : b < 2 ^ 64) (z : bit_or a b ≡ 0 → ⊥) where
+    hit : 16 * k + first_hit a b ≡ passed_by t s
+    hit = by (ltb (count_trailing_zeros 64 a / 8) 8) refl
       where
-        by : (t : Bool) → ltb (count_trailing_zeros 64 a / 8) 8 ≡ t → 16 * k + cond t (count_trailing_zeros 64 a / 8) (8 + count_trailing_zeros 64 b / 8) ≡ line_len s
-        by true m = here h known (omega arith) a e (ltb-true _ 8 m)
-        by false m =
-            let n : a < 1 = lt_of_not-le (λ q. let g = some h known (omega arith) a e q in omega (arith, ltb-false (count_trailing_zeros 64 a / 8) 8 m)) in
-            let p : a ≡ 0 = omega arith in
-            let c = upper p in
-            let q = here c known (omega arith) b f (some c known (omega arith) b f (pos_of_ne-zero (λ r. z (rw (p, r) (or_zero_l 0))))) in
-            omega (arith, q)
+        by : (u : Bool) → ltb (count_trailing_zeros 64 a / 8) 8 ≡ u → 16 * k + cond u (count_trailing_zeros 64 a / 8) (8 + count_trailing_zeros 64 b / 8) ≡ passed_by t s
+        by true q = here h (omega arith) a e (ltb-true _ 8 q)
+        by false q =
+            let v : 8 ≤ count_trailing_zeros 64 a / 8 = ltb-false (count_trailing_zeros 64 a / 8) 8 q in
+            let p : a < 1 = lt_of_not-le (λ i. let g = some a m i in omega arith) in
+            let y : a ≡ 0 = omega arith in
+            let c = past h (omega arith) a e v in
+            let g = here c (omega arith) b f (some b n (pos_of_ne-zero (λ r. z (rw (y, r) (or_zero_l 0))))) in
+            omega (arith, g)
 
-    pub found : (bit_or a b ≡ 0 → ⊥) → 16 * k + first_hit a b ≡ line_sixteens s
-    found z = hit z ∙ sym (min-eq_left (omega (arith, hit z, hit-le a b)))
+    pub found : 16 * k + first_hit a b ≡ at_most (length s / 16 * 16) t s
+    found = hit ∙ sym (min-eq_left (omega (arith, hit, hit-le a b)))
+
+-- the word after k words
+module _ {t : ℕ → Bool} {s : List ℕ} (k : ℕ) (h : Clean t s (8 * k)) (l : 8 * k + 8 ≤ length s) (a : ℕ) (e : Found t s (8 * k) a) where
+  pub passed-one : a ≡ 0 → Clean t s (8 * (k + 1))
+  passed-one z = let c = past h l a e (none a z) in record { counted = omega (arith, c.counted) }
+
+  pub found-one : a < 2 ^ 64 → (a ≡ 0 → ⊥) → 8 * k + count_trailing_zeros 64 a / 8 ≡ at_most (length s / 8 * 8) t s
+  found-one m z =
+      let i = some a m (pos_of_ne-zero z) in
+      let g = here h l a e i in
+      g ∙ sym (min-eq_left (omega (arith, g, i)))
+
+-- what is found in the word k, x being that word
+pub found-other : (s : List ℕ) {c : List (List ℕ)} (k : ℕ) {x : ℕ} → c ≡ first_chunks 8 (length s / 8) s → ((j : ℕ) → get_or s j 0 < 2 ^ 8) → 8 * k + 8 ≤ length s
+    → x ≡ from_le_bytes w64 (get_or c k []) → Found is_space s (8 * k) (bit_xor x (each 8 (byte " ")))
+found-other s k e known l f = first-other s (8 * k) known (ap (λ y. bit_xor y (each 8 (byte " "))) (f ∙ single _ _ e k l))

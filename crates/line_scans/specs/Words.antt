@@ -1,5 +1,5 @@
--- The search for CR or LF by words: intermediate definitions, over the bytes at places. text/proofs/Skipped ties the count
--- to the line's end.
+-- Scans by words: intermediate definitions, over the bytes at places. text/proofs/Skipped ties the counts to what is counted
+-- byte by byte.
 use Rattle.std.specs.Prelude.{ℕ, zero, suc, ◌+◌, ◌*◌, ◌/◌, ◌^◌, min, List, Bool, cond, not, ◌||◌, eqb, ltb, length, get_or}
 use Prim.Native.Char.{code as byte}
 use Rattle.std.specs.Int.Bits.{bit_and, bit_or, bit_xor}
@@ -34,17 +34,24 @@ hits_of n w =
 abbrev pub first_hit : ℕ → ℕ → ℕ
 first_hit low high = cond (ltb (count_trailing_zeros 64 low / 8) 8) (count_trailing_zeros 64 low / 8) (8 + count_trailing_zeros 64 high / 8)
 
--- a byte is neither CR nor LF
+-- a byte is neither CR nor LF; is a space
 abbrev pub in_line : ℕ → Bool
 in_line b = not (eqb b (byte "\r") || eqb b (byte "\n"))
 
-abbrev pub line_at : List ℕ → ℕ → Bool
-line_at s i = in_line (get_or s i 0)
+abbrev pub is_space : ℕ → Bool
+is_space b = eqb b (byte " ")
 
--- how many bytes stand before the first CR or LF
-abbrev pub line_len : List ℕ → ℕ
-line_len s = passing (line_at s) (length s)
+-- how many bytes pass a test before one fails; at most m
+abbrev pub passed_by : (ℕ → Bool) → List ℕ → ℕ
+passed_by t s = passing (λ i. t (get_or s i 0)) (length s)
 
--- the same as far as the whole sixteens go
+abbrev pub at_most : ℕ → (ℕ → Bool) → List ℕ → ℕ
+at_most m t s = min (passed_by t s) m
+
+-- how many bytes stand before the first CR or LF, as far as the whole sixteens go
 abbrev pub line_sixteens : List ℕ → ℕ
-line_sixteens s = min (line_len s) (length s / 16 * 16)
+line_sixteens s = at_most (length s / 16 * 16) in_line s
+
+-- how many spaces stand in front, as far as the whole eights go
+abbrev pub space_eights : List ℕ → ℕ
+space_eights s = at_most (length s / 8 * 8) is_space s

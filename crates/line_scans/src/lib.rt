@@ -1,6 +1,6 @@
-// The search for the end of a line, a word of eight bytes at a time.
+// Scans within a line, by words of eight bytes.
 #![tactic(auto)]
 
 mod words;
 
-pub use words::line_sixteens;
+pub use words::{line_sixteens, space_eights};

@@ -1,51 +1,38 @@
--- What a scan by eights or by words passes over: the scan by bytes may go on from there (text_scans/proofs/Passing, `along`
--- and `upto`).
-use Prim.Native.Nat.{ℕ, ◌+◌, ◌*◌, ◌/◌, ◌<◌, min}
-use mathlib.Core.Path.{◌≡◌, refl, sym, ◌∙◌}
+-- What a scan by words passes over: the scan by bytes may go on from there (text_scans/proofs/Passing, `upto`).
+use Prim.Native.Nat.{ℕ, ◌+◌, ◌*◌, ◌/◌}
+use mathlib.Core.Path.{◌≡◌, sym}
 use mathlib.Core.List.{List}
-use mathlib.Core.Bool.{true}
+use mathlib.Core.Bool.{Bool, true}
 use native.Mathlib.Nat.{zero-add, min-le_left}
-use native.Mathlib.Numerals.{add-one}
 use native.Mathlib.Omega.{arith}
 use lib.ListN.{length, get_or, drop}
-use lib.Seq.{drop-cons}
-use borrow.Author.Tests.{eqb-true, eq-eqb}
-use Rattle.text.specs.Bytes.{is_blank, is_break, not_break, line_end, starts_with}
+use Rattle.text.specs.Bytes.{is_blank, is_break, not_break, line_end}
 use Rattle.std.specs.List.{prefix_len}
 use Rattle.text.specs.Trimming.{dropped}
-use Rattle.text_scans.specs.Eights.{eights, space_at, same_at}
-use Rattle.line_scans.specs.Words.{line_at, line_len, line_sixteens}
+use Rattle.line_scans.specs.Words.{in_line, is_space, passed_by, at_most, line_sixteens, space_eights}
 use Rattle.text.specs.declared.trimming.Dropped.{Dropped}
 use Rattle.text.specs.declared.trimming.Dropped.TheVariants.{Blanks, BlanksAndBreaks}
-use Rattle.text_scans.proofs.Passing.{upto, along}
+use Rattle.text_scans.proofs.Passing.{upto}
 use Rattle.std.proofs.lemmas.List.Sums.{prefix_len-drop_yes}
 
+-- Of the bytes that pass one test, as many as another may be asked of again: the count goes on from there.
+passed : (p t : ℕ → Bool) (s : List ℕ) (m : ℕ) → ((b : ℕ) → t b ≡ true → p b ≡ true) → (r : ℕ) → r ≡ at_most m t s
+    → prefix_len p s ≡ r + prefix_len p (drop r s)
+passed p t s m f r e =
+    let l = min-le_left (passed_by t s) m in
+    upto (λ i. t (get_or s i 0)) (length s) (λ i. prefix_len p s ≡ i + prefix_len p (drop i s)) (sym (zero-add _))
+    (λ i m h g. omega (arith, g, prefix_len-drop_yes p s i 0 m (f (get_or s i 0) h))) r (omega arith)
+
 -- each kind of trimming drops spaces
-space : (which : Dropped) → dropped which 32 ≡ true
+space : (which : Dropped) (b : ℕ) → is_space b ≡ true → dropped which b ≡ true
 unfolding dropped is_blank
-space Blanks = refl
-space BlanksAndBreaks = refl
+space Blanks b e = rw e
+space BlanksAndBreaks b e = rw e
 
-pub spaces : (which : Dropped) (s : List ℕ) (r : ℕ) → r ≡ eights (space_at s) (length s)
+pub spaces : (which : Dropped) (s : List ℕ) (r : ℕ) → r ≡ space_eights s
     → prefix_len (dropped which) s ≡ r + prefix_len (dropped which) (drop r s)
-spaces which s r =
-    along (space_at s) (length s) (λ i. prefix_len (dropped which) s ≡ i + prefix_len (dropped which) (drop i s)) (sym (zero-add _))
-    (λ i l e h. omega (arith, h, prefix_len-drop_yes (dropped which) s i 0 l (rw (eqb-true (get_or s i 0) 32 e) (space which)))) r
-
--- where the bytes at one place are the same, the texts may be compared from the next on
-same : (p s : List ℕ) (i : ℕ) → i < length s → i < length p → get_or s i 0 ≡ get_or p i 0
-    → starts_with (drop i p) (drop i s) ≡ starts_with (drop (i + 1) p) (drop (i + 1) s)
-unfolding starts_with
-same p s i h k e = rw (drop-cons s i 0 h, drop-cons p i 0 k, e, eq-eqb (get_or p i 0) _ refl, add-one)
-
-pub common : (p s : List ℕ) (r : ℕ) → r ≡ eights (same_at s p) (min (length s) (length p))
-    → starts_with p s ≡ starts_with (drop r p) (drop r s)
-common p s =
-    along (same_at s p) (min (length s) (length p)) (λ i. starts_with p s ≡ starts_with (drop i p) (drop i s)) refl
-    (λ i l e h. h ∙ same p s i (omega arith) (omega arith) (eqb-true (get_or s i 0) (get_or p i 0) e))
+spaces which s = passed (dropped which) is_space s (length s / 8 * 8) (space which)
 
 pub line : (s : List ℕ) (r : ℕ) → r ≡ line_sixteens s → line_end s ≡ r + line_end (drop r s)
 unfolding is_break
-line s r e =
-    let l = min-le_left (line_len s) (length s / 16 * 16) in
-    upto (line_at s) (length s) (λ i. line_end s ≡ i + line_end (drop i s)) (sym (zero-add _)) (λ i m f h. omega (arith, h, prefix_len-drop_yes not_break s i 0 m f)) r (omega arith)
+line s = passed not_break in_line s (length s / 16 * 16) (λ b e. e)

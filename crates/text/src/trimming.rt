@@ -3,7 +3,7 @@ ghost use Rattle.std.specs.List.{prefix_len, suffix_len};
 ghost use Rattle.text.specs.Trimming.{dropped, trimmed};
 
 use crate::bytes::{Part, is_newline, is_whitespace};
-use text_scans::space_eights;
+use line_scans::space_eights;
 
 // Which bytes trimming drops.
 #[derive(Clone, Copy, Debug, PartialEq, Eq)]
@@ -40,11 +40,14 @@ impl Dropped {
     }
 }
 
-// How many dropped bytes s begins with. Each kind drops spaces, so eights of them may be passed first.
+// How many dropped bytes s begins with: mostly none. Each kind drops spaces, so eights of them may be passed.
 #[tactic(auto, using(crate::proofs::Skipped::spaces, crate::proofs::Front::from))]
 pub fn leading(which: Dropped, s: &[u8]) -> usize
     ensures { result ≡ prefix_len (dropped which) s.now }
 {
+    if !s.first().is_some_and(|b| which.drops(*b)) {
+        return 0;
+    }
     let spaces = space_eights(s);
     spaces + which.before(&s[spaces..])
 }

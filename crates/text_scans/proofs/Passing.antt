@@ -90,12 +90,21 @@ module _ (t : ℕ → Bool) (n k : ℕ) (h : 8 * k ≤ passing t n) where
   end l = omega (arith, passing-le t n)
 
 -- What holds at the start, and goes over from each place that passes to the next, holds at each place up to the first
--- that fails, and so at the place r where the eights end.
+-- that fails.
 module _ (t : ℕ → Bool) (n : ℕ) (G : ℕ → Type 0) (z : G 0) (next : (i : ℕ) → i < n → t i ≡ true → G i → G (i + 1)) where
   pub upto : (i : ℕ) → i ≤ passing t n → G i
   upto zero l = z
   upto (suc i) l = rw add-one at (next i (omega (arith, passing-le t n)) (passes t n i (omega arith)) (upto i (omega arith)))
 
-  pub along : (r : ℕ) → r ≡ eights t n → G r
+-- A loop over places has passed i of them.
+module _ (t : ℕ → Bool) (n i : ℕ) where
+  pub within : i ≡ eights t n → i ≤ passing t n
   unfolding eights
-  along r e = upto r (omega arith)
+  within e = omega arith
+
+  -- the next place fails, or none is left
+  pub halt : i ≤ passing t n → t i ≡ false → i ≡ passing t n
+  halt h e = let f : passing t n < suc i = lt_of_not-le (λ l. false≢true (sym e ∙ passes t n i l)) in omega arith
+
+  pub over : i ≤ passing t n → n ≤ i → n ≡ passing t n
+  over h l = omega (arith, passing-le t n)

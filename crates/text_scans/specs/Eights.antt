@@ -1,11 +1,8 @@
--- Scans by whole eights: intermediate definitions, over a test of places. text/proofs/Skipped ties them to what text
--- counts and compares byte by byte.
+-- Scans by eights: intermediate definitions, over a test of places. tokenizer_scans/proofs/Related and utf8/proofs/Skipped
+-- tie them to what is compared and read byte by byte.
 use Rattle.std.specs.Prelude.{ℕ, zero, suc, ◌+◌, ◌*◌, ◌/◌, ◌<◌, ◌≡◌, List, Bool, cond, ◌&&◌, eqb, ltb, get_or}
 
--- the byte at a place is a space; is below 80, a character by itself; is the byte that p has there
-abbrev pub space_at : List ℕ → ℕ → Bool
-space_at s i = eqb (get_or s i 0) 32
-
+-- the byte at a place is below 80, a character by itself; is the byte that p has there
 abbrev pub ascii_at : List ℕ → ℕ → Bool
 ascii_at s i = ltb (get_or s i 0) 0x80
 

@@ -18,7 +18,7 @@ ghost use Rattle.tokenizer_scans.specs.Scans.{
 };
 
 use text::{Dropped, Part, is_newline};
-use text_scans::same_eights;
+use text_scans::same_len;
 
 // How an indentation lies to the innermost open one: the same bytes, longer and beginning with it, or neither.
 #[derive(Clone, Copy, Debug, PartialEq, Eq)]
@@ -28,13 +28,11 @@ pub enum Relation {
     Other,
 }
 
-// Eights are compared first: an indentation is often long.
-#[tactic(auto, using(crate::proofs::Related::other, crate::proofs::Related::equal, crate::proofs::Related::deeper, text::proofs::Skipped::common, text::proofs::Front::from))]
+#[tactic(auto, using(crate::proofs::Related::other, crate::proofs::Related::equal, crate::proofs::Related::deeper))]
 pub fn relate(inner: &[u8], indent: &[u8]) -> Relation
     ensures { result ≡ relation_of inner.now indent.now }
 {
-    let whole = same_eights(indent, inner);
-    if !text::starts_with(&indent[whole..], &inner[whole..]) {
+    if same_len(inner, indent) < inner.len() {
         return Relation::Other;
     }
     if indent.len() == inner.len() {

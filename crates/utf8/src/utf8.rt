@@ -2,7 +2,7 @@ ghost use Rattle.std.specs.Prelude.{◌≡◌, ◌≤◌, eqb, length};
 ghost use Rattle.std.specs.List.{list_all};
 ghost use Rattle.utf8.specs.Utf8.{within, lead_of, followed, char_len, utf8};
 
-use text_scans::ascii_eights;
+use text_scans::ascii_len;
 
 // What a lead byte says (Table 3-7): how many bytes follow, and the range of the second byte.
 #[derive(Clone, Copy, Debug, PartialEq, Eq)]
@@ -125,7 +125,7 @@ pub fn char_len(s: &[u8]) -> usize
 pub fn is_utf8(s: &[u8]) -> bool
     ensures { result ≡ utf8 s.now }
 {
-    let mut rest = &s[ascii_eights(s)..];
+    let mut rest = &s[ascii_len(s)..];
     while let Some((&b, tail)) = rest.split_first() {
         if b < 0x80 {
             rest = tail;
