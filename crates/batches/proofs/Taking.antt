@@ -1,6 +1,6 @@
 -- The batch's loop, of any steps: what was taken so far, and then what is still to be taken, is what is taken.
 use Prim.Native.Nat.{ℕ, zero, suc, ◌+◌, ◌-◌, ◌*◌, ◌≤◌, ◌<◌}
-use mathlib.Core.Path.{◌≡◌, refl, sym}
+use mathlib.Core.Path.{◌≡◌, refl, sym, subst, ◌∙◌}
 use mathlib.Core.List.{List, [], ◌∷◌, ◌++◌, append-nil, append_assoc}
 use mathlib.Core.Bool.{true, false, ◌&&◌}
 use native.Mathlib.Nat.{sub-zero}
@@ -8,7 +8,8 @@ use native.Mathlib.Omega.{arith}
 use Rattle.std.specs.Prelude.{Some, None}
 use Rattle.std.specs.Option.{option_eq}
 use lib.Dec.{eqb, ltb, eqb-suc-zero}
-use lib.ListN.{length, length-append}
+use lib.ListN.{length, take, drop, length-append, length-drop, take-append-drop}
+use lib.Seq.{drop-length, length-take-le}
 use borrow.Author.Tests.{lt-ltb, le-ltb}
 use Rattle.text.proofs.Cases.{by_bool}
 use Rattle.tokenizer.specs.Token.{Values}
@@ -16,7 +17,7 @@ use Rattle.tokenizer_rows.specs.Rows.{row_of, rows_of, rows_in}
 use Rattle.tokenizer_words.specs.Words.{pasted, pasted_in}
 use Rattle.batches.specs.Batch.{Steps, Taken, taken}
 use Rattle.tokenizer_rows.proofs.RowLists.{rows_append, rows-length}
-use Rattle.tokenizer_words.proofs.Pasting.{pasted-room, pasted-after}
+use Rattle.tokenizer_words.proofs.Pasting.{pasted-room, pasted-front, pasted-after, copied_over}
 use Rattle.batches.specs.Walks.{last_of}
 
 -- one row more
@@ -25,6 +26,19 @@ unfolding rows_in rows_of
 row_more l v w =
     let k : 7 * length (l ++ (v ∷ [])) ≡ 7 * length l + 7 = rw length-append (omega arith) in
     rw (k, pasted-after (rows_of l) (row_of v) w (7 * length l) (rows-length l), rows_append l (v ∷ []))
+
+-- the k words from the nth on are lent, and come back as p: as they were, or as a row of their length
+module _ (w : List ℕ) (n k : ℕ) {p : List ℕ} where
+  pub lent-stays : p ≡ take k (drop n w) → take n w ++ (p ++ drop k (drop n w)) ≡ w
+  lent-stays e = rw (e, take-append-drop, take-append-drop)
+
+  pub lent-row : (r : List ℕ) → k ≡ length r → n + length r ≤ length w → p ≡ pasted_in r 0 (take k (drop n w))
+      → take n w ++ (p ++ drop k (drop n w)) ≡ pasted_in r n w
+  lent-row r l h e =
+      let part = take k (drop n w) in
+      let long : length part ≡ length r = length-take-le k (drop n w) (omega (arith, length-drop n w)) ∙ l in
+      let none : drop (length r) part ≡ [] = subst (λ m. drop m part ≡ []) long (drop-length part) in
+      copied_over r w p n k (e ∙ pasted-room r part 0 (omega arith) ∙ pasted-front r part ∙ rw (none, append-nil)) l h
 
 -- answers, and then what is taken after them
 abbrev after : {S : Type 0} → List Values → Taken S → Taken S

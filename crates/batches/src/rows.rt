@@ -4,7 +4,7 @@ ghost use Rattle.tokenizer_rows.specs.Rows.{row_by, rows_in};
 ghost use Rattle.batches.specs.Batch.{taken};
 ghost use Rattle.batches.specs.Walks.{stepping, last_of, next_of};
 
-use step_words::{Layer, step_in, stops};
+use step_words::{Layer, step_in};
 use text::Refusal;
 use tokenizer::{Said, State};
 use tokenizer_rows::said_row;
@@ -31,12 +31,9 @@ pub(crate) fn take_rows(doc: &[u8], layer: Layer, w: &mut [usize; 278], rows: &m
 {
     let room = rows.len() / 7;
     for n in 0..room {
-        let last = step_in(doc, layer, w, 7 * n, rows);
-        if stops(last) {
-            return Took {
-                rows: n,
-                last: Some(last),
-            };
+        let last = step_in(doc, layer, w, &mut rows[7 * n..7 * n + 7]);
+        if last.is_some() {
+            return Took { rows: n, last };
         }
     }
     Took {

@@ -1,68 +1,33 @@
--- The step by the code's own branches: refused before, a stop, and what goes on.
+-- An answer by its branches: one that stops changes nothing, and any other goes on.
 use Prim.Native.Nat.{ℕ}
-use mathlib.Core.Path.{◌≡◌, refl, sym, subst, ◌∙◌}
+use mathlib.Core.Path.{◌≡◌, refl, sym, ◌∙◌}
 use mathlib.Core.List.{List}
-use mathlib.Core.Bool.{true, false}
-use lib.ListN.{get_or}
-use Rattle.text.proofs.Cases.{by_bool, clash}
+use mathlib.Core.Bool.{Bool, true, false, cond}
+use Rattle.std.specs.Prelude.{Option}
+use Rattle.std.specs.Option.{is_some}
+use Rattle.text.proofs.Cases.{by_bool, on-cond, clash}
 use Rattle.tokenizer.specs.declared.said.Said.{Said}
-use Rattle.tokenizer.specs.declared.front.Advanced.{Advanced}
-use Rattle.tokenizer_rows.specs.Rows.{row_by}
-use Rattle.tokenizer_words.specs.Words.{pasted_in}
-use Rattle.front_words.specs.Fronts.{committed}
-use Rattle.step_words.specs.Stepping.{refused_in, came_in, outcome_for, left_in, stops_at, Gone, stays, gone_by, step_in, row_in}
-use Rattle.step_words.specs.declared.outcome.Outcome.{Outcome}
+use Rattle.step_words.specs.Stepping.{refused_in, stops_at, stop_of, Gone, stays, gone_by, step_in}
 use Rattle.step_words.specs.declared.step.Layer.{Layer}
+use Rattle.step_words.specs.declared.step.Layer.TheVariants.{Tokenizer, Parser}
 
--- a step's number, words and rows are those of g
-abbrev pub Does : Gone → ℕ → List ℕ → ℕ → List ℕ → List ℕ → Type 0
-Does g n w at₀ rows₀ rows = (n ≡ g.said.number) × ((w ≡ g.words) × (rows ≡ row_in g.said at₀ rows₀))
-
-module _ (layer : Layer) (d w : List ℕ) where
-  pub refused : refused_in layer w ≡ true → step_in layer d w ≡ stays 0 w
-  unfolding step_in
-  refused e = rw e
-
-  pub goes : refused_in layer w ≡ false → step_in layer d w ≡ gone_by layer (came_in layer d w) (outcome_for layer (came_in layer d w).said w) w
-  unfolding step_in
-  goes e = rw e
-
-module _ (layer : Layer) (m : Advanced) (o : Outcome) (w : List ℕ) where
-  pub stopped : stops_at o.answer.number ≡ true → gone_by layer m o w ≡ stays o.answer.number w
-  unfolding gone_by
-  stopped e = rw e
-
-  pub went_on : stops_at o.answer.number ≡ false
-      → gone_by layer m o w ≡ record { said = o.answer; words = left_in layer o (get_or w 147 0) (committed m w) }
-  unfolding gone_by
-  went_on e = rw e
+-- by what the answer is, whether it stops, and what the words after it are
+pub gone_is : {s a : Said} {u v : List ℕ} (w : List ℕ) (b : Bool) → s ≡ a → stops_at a.number ≡ b → (b ≡ false → u ≡ v)
+    → gone_by s u w ≡ cond b (stays a.number w) (record { said = a; words = v })
+gone_is w b p q r = by_bool b (λ e. rw (p, q, e)) (λ e. rw (p, q, e, r e))
 
 -- a stop changes nothing, and is of no line
-pub stop-stays : (layer : Layer) (d w : List ℕ) → stops_at (step_in layer d w).said.number ≡ true → step_in layer d w ≡ stays (step_in layer d w).said.number w
-stop-stays layer d w e =
-    let m = came_in layer d w in
-    let o = outcome_for layer m.said w in
-    let Stays : Gone → Type 0 = λ g. stops_at g.said.number ≡ true → g ≡ stays g.said.number w in
-    by_bool (refused_in layer w) (λ r. subst Stays (sym (refused layer d w r)) (λ _. refl) e)
-    (λ r. subst Stays (sym (goes layer d w r)) (by_bool (stops_at o.answer.number)
-    (λ t. subst Stays (sym (stopped layer m o w t)) (λ _. refl))
-    (λ t. subst Stays (sym (went_on layer m o w t)) (λ u. absurd (clash (sym u ∙ t))))) e)
+abbrev pub Stays : List ℕ → Gone → Type 0
+Stays w g = stops_at g.said.number ≡ true → g ≡ stays g.said.number w
 
--- its row
-pub row-none : (s : Said) (n : ℕ) (rows : List ℕ) → stops_at s.number ≡ true → row_in s n rows ≡ rows
-unfolding row_in
-row-none s n rows e = rw e
+gone-stays : (s : Said) (v w : List ℕ) → Stays w (gone_by s v w)
+gone-stays s v w = on-cond (Stays w) (stops_at s.number) (λ _ _. refl) (λ e t. absurd (clash (sym t ∙ e)))
 
-pub row_put : (s : Said) (n : ℕ) (rows : List ℕ) → stops_at s.number ≡ false → row_in s n rows ≡ pasted_in (row_by s) n rows
-unfolding row_in
-row_put s n rows e = rw e
+pub stop-stays : (layer : Layer) (d w : List ℕ) → Stays w (step_in layer d w)
+unfolding step_in
+stop-stays Tokenizer d w = on-cond (Stays w) (refused_in Tokenizer w) (λ _ _. refl) (λ _. gone-stays _ _ w)
+stop-stays Parser d w = on-cond (Stays w) (refused_in Parser w) (λ _ _. refl) (λ _. gone-stays _ _ w)
 
--- a stop has no row
-pub stops-does : (n : ℕ) (w : List ℕ) (k : ℕ) (rows : List ℕ) → stops_at n ≡ true → Does (stays n w) n w k rows rows
-unfolding row_in
-stops-does n w k rows e = rw e (refl, (refl, refl))
-
-pub goes-does : (g : Gone) (k : ℕ) (rows : List ℕ) → stops_at g.said.number ≡ false
-    → Does g g.said.number g.words k rows (pasted_in (row_by g.said) k rows)
-unfolding row_in
-goes-does g k rows e = rw e (refl, (refl, refl))
+-- whether it stops, by what a step returns
+pub stop_some : {r : Option ℕ} {b : Bool} (n : ℕ) → r ≡ stop_of n → b ≡ is_some r → stops_at n ≡ b
+stop_some n p q = rw (q, p) (by_bool (stops_at n) (λ e. rw e) (λ e. rw e))

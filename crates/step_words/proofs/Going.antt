@@ -92,7 +92,7 @@ module _ (d w : List ℕ) (l : length d ≤ 16777216) (h : 278 ≤ length w) (e 
   unfolding parser_in
   came = comes d w l (omega arith) f _ (parser_in w).kept (reads-none w) (ap (drop 140) e ∙ kept_at (parser_in w) (drop 278 w) (slots-in w))
 
-  leaves : Leaves (outcome_for Parser (came_in Parser d w).said w) (ruled_for d w)
+  leaves : Leaves (outcome_for (came_in Parser d w).said w) (ruled_for d w)
   unfolding parser_in judged_in
   leaves =
       let s = parser_in w in
@@ -124,11 +124,11 @@ module _ (d w : List ℕ) (l : length d ≤ 16777216) (h : 278 ≤ length w) (e 
     unfolding parser_in step_kept step_with
     step_is = goes_on d (parser_in w) l f r
 
-    pub answer-is : (outcome_for Parser (came_in Parser d w).said w).answer ≡ said_by (values_of (step_of d (parser_in w)).answer)
+    pub answer-is : (outcome_for (came_in Parser d w).said w).answer ≡ said_by (values_of (step_of d (parser_in w)).answer)
     answer-is = rw step_is (answer-of (parser_in w) (next_for d w) (ruled_for d w) _ leaves)
 
     pub words_are : is_stop (step_of d (parser_in w)).answer ≡ false
-        → outcome_in (outcome_for Parser (came_in Parser d w).said w) (get_or w 147 0) (committed (came_in Parser d w) w) ≡ parser_words (step_of d (parser_in w)).state ++ drop 278 w
+        → outcome_in (outcome_for (came_in Parser d w).said w) (get_or w 147 0) (committed (came_in Parser d w) w) ≡ parser_words (step_of d (parser_in w)).state ++ drop 278 w
     unfolding parser_in
     words_are g =
         rw (between, step_is)

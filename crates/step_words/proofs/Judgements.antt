@@ -28,9 +28,7 @@ use Rattle.parser_rules.specs.declared.judging.Judged.TheVariants.{
 }
 use Rattle.parser.specs.Step.{ChangeFits}
 use Rattle.step_words.specs.Outcomes.{outcome_by}
-use Rattle.step_words.specs.Stepping.{innermost_in, sort_at, judged_in}
-use Rattle.step_words.specs.declared.step.Layer.{Layer}
-use Rattle.step_words.specs.declared.step.Layer.TheVariants.{Tokenizer, Parser}
+use Rattle.step_words.specs.Stepping.{innermost_in, sort_at, judged_in, outcome_for}
 
 -- what it asks of n open sections
 abbrev pub Sound : ℕ → Judged → Type 0
@@ -80,10 +78,9 @@ module _ (n : ℕ) (w : List ℕ) where
   after-hint k =
       on-cond (Sound n) (eqb k 1) (λ _. tt) (λ _. on-cond (Sound n) (eqb k 2) (λ _. tt) (λ _. on-cond (Sound n) (eqb k 9) (λ _. tt) (λ _. tt)))
 
-pub sound : (layer : Layer) (k : ℕ) (w : List ℕ) → Sound (get_or w 147 0) (judged_in layer k w)
+pub sound : (k : ℕ) (w : List ℕ) → Sound (get_or w 147 0) (judged_in k w)
 unfolding judged_in judged_by
-sound Tokenizer k w = on-cond (Sound (get_or w 147 0)) (eqb k 0) (λ _. tt) (λ _. tt)
-sound Parser k w =
+sound k w =
     let n = get_or w 147 0 in
     on-cond (Sound n) (leb 256 k) (λ _. tt)
     (λ _. on-cond (Sound n) (eqb (get_or w 138 0) 1) (λ _. after-key n w k)
@@ -105,3 +102,6 @@ change-fits n (Refuses k) s a l o h = tt
 change-fits n RefusesEntry s a l o h = tt
 change-fits n End s a l o h = tt
 change-fits n Unfit s a l o h = tt
+
+pub outcome_fits : (s : Said) (w : List ℕ) → ChangeFits (outcome_for s w).change (get_or w 147 0)
+outcome_fits s w = change-fits _ _ s _ _ _ (sound s.number w)

@@ -5,19 +5,16 @@ use Rattle.tokenizer.specs.Token.{Answer as Came, bare, values_of}
 use Prim.Native.Nat.{ℕ, ◌≤◌}
 use mathlib.Core.Path.{◌≡◌, refl, sym, ap, subst, ◌∙◌}
 use mathlib.Core.List.{List, [], ◌++◌, append-nil}
-use mathlib.Core.Bool.{true, false, cond}
+use mathlib.Core.Bool.{true, cond, or-false}
 use native.Mathlib.Omega.{arith}
 use lib.Dec.{eqb}
 use lib.ListN.{length, drop}
 use lib.Seq.{drop-length}
-use borrow.Author.Tests.{ne_eqb, le-leb}
-use Rattle.text.proofs.Cases.{by_bool, clash}
+use borrow.Author.Tests.{ne_eqb, eqb-true, le-leb}
+use Rattle.text.proofs.Cases.{by_bool, on-cond, clash}
 use Rattle.tokenizer.specs.Step.{fit, step_of as token_step}
 use Rattle.tokenizer.specs.Said.{said_by}
-use Rattle.tokenizer.specs.Front.{ahead_of}
 use Rattle.tokenizer.specs.Lists.{is_end}
-use Rattle.tokenizer.specs.declared.said.Said.{Said}
-use Rattle.tokenizer.specs.declared.front.Advanced.{Advanced}
 use Rattle.tokenizer.specs.declared.state.State.{State as Tokenizer}
 use Rattle.tokenizer.proofs.Valued.{end-number}
 use Rattle.tokenizer.proofs.Advancing.{step-said, step-number}
@@ -32,41 +29,30 @@ use Rattle.parser.proofs.Steps.{ended, goes_on}
 use Rattle.tokenizer_words.specs.Words.{state_in}
 use Rattle.parser_words.specs.ParserWords.{parser_words, parser_in, fresh_parser_in}
 use Rattle.parser_words.specs.Stops.{is_stop}
-use Rattle.front_words.specs.Fronts.{committed}
-use Rattle.step_words.specs.Outcomes.{outcome_by}
-use Rattle.step_words.specs.Stepping.{refused_in, kept_number, came_in, judged_in, outcome_for, left_in, stops_at, stays, gone_by, step_in}
+use Rattle.step_words.specs.Stepping.{refused_in, kept_number, came_in, outcome_for, stops_at, Gone, stays, step_in}
 use Rattle.step_words.specs.Claims.{Whole, Reading, FreshReads, TokenizerSteps, ParserSteps}
 use Rattle.step_words.specs.declared.outcome.Outcome.{Outcome}
-use Rattle.step_words.specs.declared.step.Layer.TheVariants.{Tokenizer as Tokens, Parser as Parses}
+use Rattle.step_words.specs.declared.step.Layer.TheVariants.{Parser as Parses}
 use Rattle.front_words.proofs.Fronts.{step-committed}
 use Rattle.step_words.proofs.Rulings.{GoesOn, Fair, ruling-goes-on}
 use Rattle.step_words.proofs.Going.{stop_is, answer-is, words_are}
-use Rattle.step_words.proofs.Branches.{refused, goes, stopped, went_on}
+use Rattle.step_words.proofs.Branches.{gone_is}
 use Rattle.step_words.proofs.Whole.{fresh-whole, stood-state, stood-tokenizer, stood-rest, stood-words, stood-length}
 use Rattle.tokenizer.specs.declared.state.Step.{Step}
 
--- the tokenizer's, by the number that came
-module _ (m : Advanced) (w : List ℕ) where
-  end-came : eqb m.said.number 0 ≡ true → gone_by Tokens m (outcome_for Tokens m.said w) w ≡ stays 0 w
-  unfolding gone_by judged_in outcome_by stops_at
-  end-came e = rw e
-
-  other-came : eqb m.said.number 0 ≡ false → eqb m.said.number 271 ≡ false
-      → gone_by Tokens m (outcome_for Tokens m.said w) w ≡ record { said = m.said; words = committed m w }
-  unfolding gone_by judged_in outcome_by stops_at left_in
-  other-came e f = rw e (rw (e, f))
-
+-- the tokenizer's: it never says 15, and End by its number 0
 pub tokenizer-steps : TokenizerSteps
-unfolding step_in refused_in came_in kept_number
+unfolding step_in refused_in came_in kept_number stops_at
 tokenizer-steps d w l h f =
     let t = token_step d (state_in w) in
-    let m = ahead_of d (state_in w) in
-    let s : m.said ≡ said_by (values_of t.answer) = step-said d (state_in w) l f in
-    let n : eqb m.said.number 0 ≡ is_end t.answer = ap (λ (x : Said). eqb x.number 0) s ∙ end-number t.answer in
-    let k : m.said.number ≤ 259 = rw s (step-number d (state_in w) l f) in
+    let v = values_of t.answer in
+    let n : eqb v.number 0 ≡ is_end t.answer = end-number t.answer in
+    let k : v.number ≤ 259 = step-number d (state_in w) l f in
+    let q : stops_at v.number ≡ eqb v.number 0 = rw (ne_eqb v.number 271 (λ e. omega arith)) (or-false _) in
+    let g = gone_is w (is_end t.answer) (step-said d (state_in w) l f) (q ∙ n) (λ _. step-committed d w l h f) in
     by_bool (is_end t.answer)
-    (λ e. rw e (end-came m w (n ∙ e)))
-    (λ e. rw e (other-came m w (n ∙ e) (ne_eqb m.said.number 271 (λ q. omega arith)) ∙ (λ j. record { said = s j; words = step-committed d w l h f j })))
+    (λ e. rw e (rw e at g ∙ ap (λ x. stays x w) (eqb-true v.number 0 (n ∙ e))))
+    (λ e. rw e (rw e at g))
 
 -- the parser's
 module _ (d w : List ℕ) (l : length d ≤ 16777216) (h : 278 ≤ length w) (e : w ≡ parser_words (parser_in w) ++ drop 278 w)
@@ -75,31 +61,23 @@ module _ (d w : List ℕ) (l : length d ≤ 16777216) (h : 278 ≤ length w) (e 
   t = step_of d (parser_in w)
 
   abbrev o : Outcome
-  o = outcome_for Parses (came_in Parses d w).said w
+  o = outcome_for (came_in Parses d w).said w
 
-  parser-goes : (parser_in w).refused ≡ false → gone_by Parses (came_in Parses d w) o w
-      ≡ cond (is_stop t.answer) (stays (values_of t.answer).number w) (record { said = said_by (values_of t.answer); words = parser_words t.state ++ drop 278 w })
-  unfolding left_in
-  parser-goes r =
-      let s : o.answer ≡ said_by (values_of t.answer) = answer-is d w l h e f r in
-      let n : o.answer.number ≡ (values_of t.answer).number = ap (λ (x : Said). x.number) s in
-      let k : stops_at o.answer.number ≡ is_stop t.answer = ap stops_at n ∙ stop_is t.answer in
-      by_bool (is_stop t.answer)
-      (λ q. rw q (stopped Parses (came_in Parses d w) o w (k ∙ q) ∙ ap (λ x. stays x w) n))
-      (λ q. rw q (went_on Parses (came_in Parses d w) o w (k ∙ q) ∙ (λ j. record { said = s j; words = words_are d w l h e f r q j })))
+  -- g is the parser's step
+  abbrev Steps : Gone → Type 0
+  Steps g =
+      g ≡ cond (is_stop t.answer) (stays (values_of t.answer).number w)
+      (record { said = said_by (values_of t.answer); words = parser_words t.state ++ drop 278 w })
 
-  at-end : (parser_in w).refused ≡ true → stays 0 w
-      ≡ cond (is_stop t.answer) (stays (values_of t.answer).number w) (record { said = said_by (values_of t.answer); words = parser_words t.state ++ drop 278 w })
+  at-end : (parser_in w).refused ≡ true → Steps (stays 0 w)
   unfolding parser_in is_stop values_of
   at-end r = rw (ended d (parser_in w) l f r)
 
-  parser-step : step_in Parses d w
-      ≡ cond (is_stop t.answer) (stays (values_of t.answer).number w) (record { said = said_by (values_of t.answer); words = parser_words t.state ++ drop 278 w })
-  unfolding refused_in parser_in
+  parser-step : Steps (step_in Parses d w)
+  unfolding step_in refused_in parser_in
   parser-step =
-      by_bool (refused_in Parses w)
-      (λ r. refused Parses d w r ∙ at-end r)
-      (λ r. goes Parses d w r ∙ parser-goes r)
+      on-cond Steps (refused_in Parses w) at-end
+      (λ r. gone_is w (is_stop t.answer) (answer-is d w l h e f r) (stop_is t.answer) (words_are d w l h e f r))
 
 pub parser-steps : ParserSteps
 parser-steps d s r l p =

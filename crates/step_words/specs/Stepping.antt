@@ -8,7 +8,6 @@ use Rattle.tokenizer.specs.declared.said.Said.{Said}
 use Rattle.tokenizer.specs.declared.front.Advanced.{Advanced}
 use Rattle.parser_rules.specs.Judging.{judged_by}
 use Rattle.parser_rules.specs.declared.judging.Judged.{Judged}
-use Rattle.parser_rules.specs.declared.judging.Judged.TheVariants.{GivesOn, End}
 use Rattle.tokenizer_rows.specs.Rows.{row_by, said_in}
 use Rattle.tokenizer_words.specs.Words.{pasted_in, state_in}
 use Rattle.front_words.specs.Fronts.{committed}
@@ -51,23 +50,21 @@ sort_at n w = option_map_or (λ (s : SectionWords). s.sort) (innermost_in n w) 3
 abbrev pub opened_at : ℕ → List ℕ → ℕ
 opened_at n w = option_map_or (λ (s : SectionWords). s.line) (innermost_in n w) 0
 
--- what is judged of an answer of that number: the tokenizer gives all but End on
-unfoldable pub judged_in : Layer → ℕ → List ℕ → Judged
-judged_in Tokenizer n w = cond (eqb n 0) End GivesOn
-judged_in Parser n w = judged_by n (get_or w 138 0) (sort_at (get_or w 147 0) w) (leb 65 (get_or w 147 0))
+-- what the parser judges of an answer of that number
+unfoldable pub judged_in : ℕ → List ℕ → Judged
+judged_in n w = judged_by n (get_or w 138 0) (sort_at (get_or w 147 0) w) (leb 65 (get_or w 147 0))
 
 -- what that leaves
-abbrev pub outcome_for : Layer → Said → List ℕ → Outcome
-outcome_for layer s w = outcome_by (judged_in layer s.number w) s (get_or w 138 0) (get_or w 139 0) (opened_at (get_or w 147 0) w)
-
--- the words with what the parser leaves, n sections being open
-unfoldable pub left_in : Layer → Outcome → ℕ → List ℕ → List ℕ
-left_in Tokenizer o n w = w
-left_in Parser o n w = outcome_in o n w
+abbrev pub outcome_for : Said → List ℕ → Outcome
+outcome_for s w = outcome_by (judged_in s.number w) s (get_or w 138 0) (get_or w 139 0) (opened_at (get_or w 147 0) w)
 
 -- End and 15 stop
 unfoldable pub stops_at : ℕ → Bool
 stops_at n = eqb n 0 || eqb n 271
+
+-- the number, where it stops
+abbrev pub stop_of : ℕ → Option ℕ
+stop_of n = cond (stops_at n) (Some n) None
 
 -- what a step says, and the words after it
 pub record Gone : Type 0 where
@@ -78,16 +75,26 @@ pub record Gone : Type 0 where
 abbrev pub stays : ℕ → List ℕ → Gone
 stays n w = record { said = said_by (bare n 0); words = w }
 
--- the step with what came and what that leaves
-unfoldable pub gone_by : Layer → Advanced → Outcome → List ℕ → Gone
-gone_by layer m o w =
-    cond (stops_at o.answer.number) (stays o.answer.number w)
-    (record { said = o.answer; words = left_in layer o (get_or w 147 0) (committed m w) })
+-- an answer with the words v after it; one that stops leaves w
+abbrev pub gone_by : Said → List ℕ → List ℕ → Gone
+gone_by s v w = cond (stops_at s.number) (stays s.number w) (record { said = s; words = v })
+
+-- the tokenizer's step gives on what came
+abbrev pub given_on : Advanced → List ℕ → Gone
+given_on m w = gone_by m.said (committed m w) w
+
+-- the parser's judges it
+abbrev pub ruled_on : Advanced → List ℕ → Gone
+ruled_on m w = let o = outcome_for m.said w in gone_by o.answer (outcome_in o (get_or w 147 0) (committed m w)) w
+
+abbrev pub gone_on : Layer → Advanced → List ℕ → Gone
+gone_on Tokenizer m w = given_on m w
+gone_on Parser m w = ruled_on m w
 
 -- the step
 unfoldable pub step_in : Layer → List ℕ → List ℕ → Gone
-step_in layer d w = let m = came_in layer d w in cond (refused_in layer w) (stays 0 w) (gone_by layer m (outcome_for layer m.said w) w)
+step_in layer d w = cond (refused_in layer w) (stays 0 w) (gone_on layer (came_in layer d w) w)
 
--- the rows with its row from a place on; unchanged where it stops
-unfoldable pub row_in : Said → ℕ → List ℕ → List ℕ
-row_in s n rows = cond (stops_at s.number) rows (pasted_in (row_by s) n rows)
+-- lent words with its row at their front; unchanged where it stops
+abbrev pub row_in : Said → List ℕ → List ℕ
+row_in s row = cond (stops_at s.number) row (pasted_in (row_by s) 0 row)

@@ -4,4 +4,4 @@
 mod outcome;
 mod step;
 
-pub use step::{Layer, step_in, stops};
+pub use step::{Layer, step_in};

@@ -127,7 +127,8 @@ pub(crate) fn outcome_of(v: Judged, s: Said, w: &[usize; 278]) -> Outcome
     }
 }
 
-// Writes what a judgement leaves, count being the number of open sections.
+// Writes what a judgement leaves, count being the number of open sections. What the change asks of it is a clause: a
+// struct of the two, which come from different places, would be made for this call alone.
 pub(crate) fn put_outcome(o: Outcome, count: usize, w: &mut [usize; 278])
     requires { ChangeFits o.change count }
     ensures { w.new ≡ outcome_in o count w.old }

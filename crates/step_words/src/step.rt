@@ -1,7 +1,5 @@
 // One step of a state in words, in place: what came is judged, and only then is anything written.
 ghost use Rattle.std.specs.Prelude.{◌≡◌};
-ghost use Rattle.parser.specs.Step.{ChangeFits};
-ghost use Rattle.step_words.specs.Outcomes.{outcome_in};
 ghost use Rattle.step_words.specs.Stepping.{
   refused_in,
   kept_number,
@@ -9,12 +7,14 @@ ghost use Rattle.step_words.specs.Stepping.{
   came_in,
   judged_in,
   stops_at,
-  left_in,
+  stop_of,
+  given_on,
+  ruled_on,
   step_in,
   row_in,
 };
 
-use crate::outcome::{Outcome, outcome_of, put_outcome, sort_at};
+use crate::outcome::{outcome_of, put_outcome, sort_at};
 use front_words::{commit, inner_in};
 use parser_rules::{Judged, judge};
 use parser_words::KEPT_END;
@@ -22,8 +22,8 @@ use tokenizer::{Advanced, Said, advance};
 use tokenizer_rows::{said_in, said_row};
 use tokenizer_words::{front_in, paste};
 
-// Whose step it is: the tokenizer's, of the first 137 words, or the parser's. An enum that is asked in four places, no
-// type parameter: the plan of a step is large, and is compiled once.
+// Whose step it is: the tokenizer's, of the first 137 words, or the parser's. An enum that is asked in three places,
+// no type parameter: the plan of a step is large, and is compiled once.
 #[derive(Clone, Copy)]
 pub enum Layer {
     Tokenizer,
@@ -31,6 +31,7 @@ pub enum Layer {
 }
 
 // Whether the parser has refused.
+#[tactic(auto, unfolding(crate::specs::Stepping::refused_in))]
 fn is_refused(layer: Layer, w: &[usize; 278]) -> bool
     ensures { result ≡ refused_in layer w.now }
 {
@@ -41,6 +42,7 @@ fn is_refused(layer: Layer, w: &[usize; 278]) -> bool
 }
 
 // The number of what the parser kept; 0 for nothing.
+#[tactic(auto, unfolding(crate::specs::Stepping::kept_number))]
 fn kept_number(layer: Layer, w: &[usize; 278]) -> usize
     ensures { result ≡ kept_number layer w.now }
 {
@@ -74,73 +76,75 @@ fn came(doc: &[u8], layer: Layer, w: &[usize; 278]) -> Advanced
     Advanced::unmoved(said, front)
 }
 
-// What is made of an answer of that number; the tokenizer gives all but End on.
-fn judged(layer: Layer, number: usize, w: &[usize; 278]) -> Judged
-    ensures { result ≡ judged_in layer number w.now }
+// What the parser makes of an answer of that number.
+#[tactic(auto, unfolding(crate::specs::Stepping::judged_in))]
+fn judged(number: usize, w: &[usize; 278]) -> Judged
+    ensures { result ≡ judged_in number w.now }
 {
-    match layer {
-        Layer::Tokenizer => {
-            if number == Said::END {
-                Judged::End
-            } else {
-                Judged::GivesOn
-            }
-        }
-        Layer::Parser => {
-            let count = w[147];
-            let innermost = sort_at(count, w);
-            let v = judge(number, w[138], innermost, 65 <= count);
-            v
-        }
-    }
+    let count = w[147];
+    let innermost = sort_at(count, w);
+    judge(number, w[138], innermost, 65 <= count)
 }
 
 // End and 15 stop: nothing is written.
-pub fn stops(number: usize) -> bool
+#[tactic(auto, unfolding(crate::specs::Stepping::stops_at))]
+fn stops(number: usize) -> bool
     ensures { result ≡ stops_at number }
 {
     (number == Said::END) | (number == Said::UNFIT)
 }
 
-// Writes what the parser leaves. What its change asks of the count is a clause here and there: a struct of the two,
-// which come from different places, would be made for this call alone.
-fn leave(layer: Layer, o: Outcome, count: usize, w: &mut [usize; 278])
-    requires { ChangeFits o.change count }
-    ensures { w.new ≡ left_in layer o count w.old }
+// The tokenizer's step gives on what came.
+fn give_on(m: Advanced, w: &mut [usize; 278], row: &mut [usize]) -> Option<usize>
+    ensures value { result ≡ stop_of (given_on m w.old).said.number }
+    ensures w_after { w.new ≡ (given_on m w.old).words }
+    ensures row_after { row.new ≡ row_in (given_on m w.old).said row.old }
 {
-    match layer {
-        Layer::Tokenizer => {}
-        Layer::Parser => put_outcome(o, count, w),
+    let said = m.said;
+    if stops(said.number) {
+        return Some(said.number);
     }
+    let words = said_row(said);
+    paste(&words, 0, row);
+    commit(m, w);
+    None
 }
 
-// One step: its number, with its row written from `at` on; or, with nothing written, that of End or of 15.
-pub fn step_in(
-    doc: &[u8],
-    layer: Layer,
-    w: &mut [usize; 278],
-    at: usize,
-    rows: &mut [usize],
-) -> usize
-    ensures value { result ≡ (step_in layer doc.now w.old).said.number }
-    ensures w_after { w.new ≡ (step_in layer doc.now w.old).words }
-    ensures rows_after { rows.new ≡ row_in (step_in layer doc.now w.old).said at rows.old }
+// The parser's judges it.
+#[tactic(auto, using(crate::proofs::Judgements::outcome_fits))]
+fn rule_on(m: Advanced, w: &mut [usize; 278], row: &mut [usize]) -> Option<usize>
+    ensures value { result ≡ stop_of (ruled_on m w.old).said.number }
+    ensures w_after { w.new ≡ (ruled_on m w.old).words }
+    ensures row_after { row.new ≡ row_in (ruled_on m w.old).said row.old }
 {
-    if is_refused(layer, w) {
-        return Said::END;
-    }
-    let m = came(doc, layer, w);
     let said = m.said;
-    let v = judged(layer, said.number, w);
+    let v = judged(said.number, w);
     let o = outcome_of(v, said, w);
     let answer = o.answer;
     if stops(answer.number) {
-        return answer.number;
+        return Some(answer.number);
     }
     let count = w[147];
-    let row = said_row(answer);
-    paste(&row, at, rows);
+    let words = said_row(answer);
+    paste(&words, 0, row);
     commit(m, w);
-    leave(layer, o, count, w);
-    answer.number
+    put_outcome(o, count, w);
+    None
+}
+
+// One step, with its row at the front of the lent one; or, with nothing written, the number that stops: of End or 15.
+#[tactic(auto, unfolding(crate::specs::Stepping::step_in, crate::specs::Stepping::stops_at))]
+pub fn step_in(doc: &[u8], layer: Layer, w: &mut [usize; 278], row: &mut [usize]) -> Option<usize>
+    ensures value { result ≡ stop_of (step_in layer doc.now w.old).said.number }
+    ensures w_after { w.new ≡ (step_in layer doc.now w.old).words }
+    ensures row_after { row.new ≡ row_in (step_in layer doc.now w.old).said row.old }
+{
+    if is_refused(layer, w) {
+        return Some(Said::END);
+    }
+    let m = came(doc, layer, w);
+    match layer {
+        Layer::Tokenizer => give_on(m, w, row),
+        Layer::Parser => rule_on(m, w, row),
+    }
 }
