@@ -22,14 +22,14 @@ use Rattle.joining_claims.proofs.Behind.{at_top, hinted}
 use Rattle.joining_claims.proofs.AtTop.{stands_at_top}
 
 -- a hint is refused at the end, and nothing else is
-end_refused : (a : Awaited) (s : Option Sort) → refused_in (feed (at_top a s) None).says ≡ hinted a
+pub end_refused : (a : Awaited) (s : Option Sort) → refused_in (feed (at_top a s) None).says ≡ hinted a
 unfolding feed ruling_of on_end refused_in
 end_refused awaited.Nothing s = refl
 end_refused (awaited.Value m) s = refl
 end_refused (awaited.Multiline m) s = refl
 
 -- the sections stay
-end-runs : (a : Awaited) (s : Option Sort) → hinted a ≡ false
+pub end-runs : (a : Awaited) (s : Option Sort) → hinted a ≡ false
     → Runs (level s ∷ []) (feed (at_top a s) None).says (level s ∷ [])
 unfolding feed ruling_of on_end
 end-runs awaited.Nothing s e = done

@@ -30,7 +30,7 @@ sections-length zero w = refl
 sections-length (suc n) w = ap suc (sections-length n (drop 2 w))
 
 -- one sort more is tested
-sorts-more : (n : ℕ) (w : List ℕ) (i : ℕ) → are_sorts (suc n) (drop i w) ≡ (leb (get_or w i 0) 2 && are_sorts n (drop (i + 2) w))
+pub sorts-more : (n : ℕ) (w : List ℕ) (i : ℕ) → are_sorts (suc n) (drop i w) ≡ (leb (get_or w i 0) 2 && are_sorts n (drop (i + 2) w))
 unfolding are_sorts
 sorts-more n w i = rw (get_or-drop i w 0 0, drop-drop 2 i w, add-zero)
 

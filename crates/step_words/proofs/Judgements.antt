@@ -9,6 +9,7 @@ use lib.ListN.{get_or}
 use borrow.Author.Tests.{ltb-true, leb-false}
 use Rattle.text.proofs.Cases.{by_bool, on-cond, clash}
 use Rattle.tokenizer.specs.declared.said.Said.{Said}
+use Rattle.text.specs.Numbers.{number_of}
 use Rattle.parser_rules.specs.Judging.{outdent_by, item_by, key_by, settled_by, after_entry_by, after_hint_by, judged_by}
 use Rattle.parser_rules.specs.declared.judging.Judged.{Judged}
 use Rattle.parser_rules.specs.declared.judging.Judged.TheVariants.{
@@ -41,7 +42,7 @@ Sound n Listed = (0 < n) × (n ≤ 65)
 Sound n Hint = Unit {0}
 Sound n Value = Unit {0}
 Sound n Passes = Unit {0}
-Sound n (Refuses r) = Unit {0}
+Sound n (Refuses r) = number_of r ≤ 7
 Sound n RefusesEntry = Unit {0}
 Sound n End = Unit {0}
 Sound n Unfit = Unit {0}
@@ -58,12 +59,12 @@ module _ (n : ℕ) (w : List ℕ) where
   unfolding settled_by outdent_by item_by key_by
   at_rest k =
       on-cond (Sound n) (eqb k 0) (λ _. tt) (λ _. on-cond (Sound n) (eqb k 1) (λ _. tt) (λ _. on-cond (Sound n) (eqb k 2) (λ _. tt)
-      (λ _. on-cond (Sound n) (eqb k 3) (λ _. tt)
+      (λ _. on-cond (Sound n) (eqb k 3) (λ _. omega arith)
       (λ _. on-cond (Sound n) (eqb k 4) (λ _. on-cond (Sound n) (eqb (sort_at n w) 3) (λ _. tt) (λ e. (has-sort n w e).0))
       (λ _. on-cond (Sound n) (eqb k 5)
-      (λ _. on-cond (Sound n) (eqb (sort_at n w) 1) (λ _. tt) (λ _. on-cond (Sound n) (eqb (sort_at n w) 3) (λ _. tt) (λ e. has-sort n w e)))
+      (λ _. on-cond (Sound n) (eqb (sort_at n w) 1) (λ _. omega arith) (λ _. on-cond (Sound n) (eqb (sort_at n w) 3) (λ _. tt) (λ e. has-sort n w e)))
       (λ _. on-cond (Sound n) (eqb k 6)
-      (λ _. on-cond (Sound n) (eqb (sort_at n w) 2) (λ _. tt) (λ _. on-cond (Sound n) (eqb (sort_at n w) 3) (λ _. tt) (λ e. has-sort n w e)))
+      (λ _. on-cond (Sound n) (eqb (sort_at n w) 2) (λ _. omega arith) (λ _. on-cond (Sound n) (eqb (sort_at n w) 3) (λ _. tt) (λ e. has-sort n w e)))
       (λ _. tt)))))))
 
   after-key : (k : ℕ) → Sound n (after_entry_by k (leb 65 n))

@@ -1,6 +1,6 @@
 ghost use Rattle.std.specs.Prelude.{◌≡◌, ◌≤◌, length};
-ghost use Rattle.std.specs.List.{prefix_len, suffix_len};
-ghost use Rattle.text.specs.Trimming.{dropped, trimmed};
+ghost use Rattle.std.specs.List.{prefix_len};
+ghost use Rattle.text.specs.Trimming.{dropped, kept_end, trimmed};
 
 use crate::bytes::{Part, is_newline, is_whitespace};
 use line_scans::space_eights;
@@ -31,12 +31,14 @@ impl Dropped {
         s.iter().take_while(|b| self.drops(**b)).count()
     }
 
-    // How many dropped bytes s ends with.
-    fn after(self, s: &[u8]) -> usize
-        ensures value { result ≡ suffix_len (dropped self) s.now }
-        ensures within { result ≤ length s.now }
+    // The length of s without the dropped bytes that it ends with.
+    fn kept_end(self, s: &[u8]) -> usize
+        ensures { result ≡ kept_end (dropped self) s.now }
     {
-        s.iter().rev().take_while(|b| self.drops(**b)).count()
+        match s.iter().rposition(|b| !self.drops(*b)) {
+            Some(last) => last + 1,
+            None => 0,
+        }
     }
 }
 
@@ -55,11 +57,11 @@ pub fn leading(which: Dropped, s: &[u8]) -> usize
 // The part of s without the dropped bytes at both ends; where all are dropped, the empty part at the start. Texts
 // seldom begin with eight spaces, so they are read one by one: with the eights, this would be too large to be compiled
 // into the readers.
-#[tactic(auto, unfolding(crate::specs::Trimming::trimmed), using(crate::proofs::Ends::kept))]
+#[tactic(auto, unfolding(crate::specs::Trimming::trimmed))]
 pub fn trim(which: Dropped, s: &[u8]) -> Part
     ensures { result ≡ trimmed (dropped which) s.now }
 {
-    let end = s.len() - which.after(s);
+    let end = which.kept_end(s);
     if end == 0 {
         return Part::EMPTY;
     }

@@ -27,6 +27,9 @@ other [] t h = absurd (omega arith)
 other (a ∷ s) [] h = refl
 other (a ∷ s) (b ∷ t) h = by_bool (eqb a b) (λ q. rw q (other s t (let k = rw (more, q) at h in omega arith))) (λ q. rw q)
 
+pub shorter : (inner indent : List ℕ) → length indent < length inner → relation_of inner indent ≡ Other
+shorter s t h = other s t (omega (arith, h, passing-le (same_at s t) (min (length s) (length t)), min-le_right (length s) (length t)))
+
 pub equal : (inner indent : List ℕ) → length inner ≤ common inner indent → length indent ≡ length inner → relation_of inner indent ≡ Equal
 unfolding relation_of
 equal [] [] h e = refl

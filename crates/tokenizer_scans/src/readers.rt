@@ -28,10 +28,14 @@ pub enum Relation {
     Other,
 }
 
-#[tactic(auto, using(crate::proofs::Related::other, crate::proofs::Related::equal, crate::proofs::Related::deeper))]
+// A shorter indentation is none of the two without a byte of it being read.
+#[tactic(auto, using(crate::proofs::Related::shorter, crate::proofs::Related::other, crate::proofs::Related::equal, crate::proofs::Related::deeper))]
 pub fn relate(inner: &[u8], indent: &[u8]) -> Relation
     ensures { result ≡ relation_of inner.now indent.now }
 {
+    if indent.len() < inner.len() {
+        return Relation::Other;
+    }
     if same_len(inner, indent) < inner.len() {
         return Relation::Other;
     }

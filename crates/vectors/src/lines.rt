@@ -25,46 +25,73 @@ pub fn text_in<'a>(hex: &[u8], room: &'a mut [u8; 256]) -> Option<&'a [u8]> {
     room.get(..pairs.len())
 }
 
-// The numbers of a line that are left.
+// A line, and what is left of its numbers, each of which stands behind one byte. Where none is left, or one has over
+// nine digits, the next is read from the line's start on.
 #[derive(Clone, Copy)]
 pub struct Numbers<'a> {
+    pub line: &'a [u8],
     pub rest: &'a [u8],
 }
 
 impl<'a> Numbers<'a> {
-    // The number behind the next space; one of over nine digits can't be read.
-    pub fn next(&mut self) -> Option<usize> {
-        let (_, behind) = self.rest.split_first()?;
-        let len = behind.iter().take_while(|b| b.is_ascii_digit()).count();
-        let (digits, rest) = behind.split_at_checked(len)?;
+    // The next number: 0 where none is left, and the first nine digits of a longer one.
+    pub fn next(&mut self) -> usize {
         let mut value: usize = 0;
+        let left = self.rest;
+        self.rest = self.line;
+        let Some((_, behind)) = left.split_first() else {
+            return value;
+        };
+        let len = behind.iter().take_while(|b| b.is_ascii_digit()).count();
+        let Some((digits, rest)) = behind.split_at_checked(len) else {
+            return value;
+        };
         for b in digits {
             if 99_999_999 < value {
-                return None;
+                return value;
             }
-            value = value * 10 + usize::from(digit(*b)?);
+            value = value * 10 + usize::from(b.wrapping_sub(b'0'));
         }
         self.rest = rest;
-        Some(value)
+        value
     }
 
-    // Whether the next are these.
+    fn come<T: Into<usize> + Copy>(&mut self, wanted: &[T]) -> bool {
+        wanted.iter().all(|n| self.next() == (*n).into())
+    }
+
+    // Whether the next are these, the last of which can be read.
     pub fn are<T: Into<usize> + Copy>(&mut self, wanted: &[T]) -> bool {
-        wanted.iter().all(|n| self.next() == Some((*n).into()))
+        self.come(wanted) && self.rest.len() != self.line.len()
     }
 
     // Whether they are these and no more.
     pub fn are_all<T: Into<usize> + Copy>(mut self, wanted: &[T]) -> bool {
-        self.are(wanted) && self.rest.is_empty()
+        self.come(wanted) && self.rest.is_empty()
     }
 
-    // The bytes that stand as numbers, their count first, put into `room`.
-    pub fn bytes<'r>(&mut self, room: &'r mut [u8; 256]) -> Option<&'r [u8]> {
-        let len = self.next()?;
-        for byte in room.get_mut(..len)?.iter_mut() {
-            *byte = u8::try_from(self.next()?).ok()?;
+    // The bytes that stand as numbers, their count first, put into `room`; none where one is no byte, or there are too
+    // many, and the next number is then read from the line's start on.
+    pub fn bytes<'r>(&mut self, room: &'r mut [u8; 256]) -> &'r [u8] {
+        let len = self.next();
+        if !self.fill(len, room) {
+            self.rest = self.line;
+            return &room[..0];
         }
-        room.get(..len)
+        room.get(..len).unwrap_or(&[])
+    }
+
+    fn fill(&mut self, len: usize, room: &mut [u8; 256]) -> bool {
+        let Some(to) = room.get_mut(..len) else {
+            return false;
+        };
+        for byte in to.iter_mut() {
+            let Ok(n) = u8::try_from(self.next()) else {
+                return false;
+            };
+            *byte = n;
+        }
+        true
     }
 }
 

@@ -55,6 +55,11 @@ pub struct Tally {
     pub first: Option<usize>,
 }
 
+// One more, up to a million.
+fn up(n: usize) -> usize {
+    n.saturating_add(1).min(1_000_000)
+}
+
 impl Tally {
     pub fn of(&self, kind: Kind) -> usize {
         self.counts[kind as usize]
@@ -65,12 +70,12 @@ impl Tally {
         match checked {
             Some((kind, _)) => {
                 let n = &mut self.counts[kind as usize];
-                *n = n.saturating_add(1);
+                *n = up(*n);
             }
-            None => self.unreadable = self.unreadable.saturating_add(1),
+            None => self.unreadable = up(self.unreadable),
         }
         if !checked.is_some_and(|c| c.1) {
-            self.differences = self.differences.saturating_add(1);
+            self.differences = up(self.differences);
             self.first = self.first.or(Some(line));
         }
     }
@@ -83,7 +88,7 @@ fn check_line(line: &[u8]) -> Option<(Kind, bool)> {
     let (hex, rest) = behind.split_at_checked(len)?;
     let mut room = [0u8; 256];
     let s = text_in(hex, &mut room)?;
-    let numbers = Numbers { rest };
+    let numbers = Numbers { line, rest };
     Some(match tag {
         b'u' => (Kind::Utf8, utf8_agrees(s, numbers)),
         b'b' => (Kind::Trimming, trimming_agrees(s, numbers, Dropped::Blanks)),
@@ -116,7 +121,7 @@ pub fn all(s: &[u8]) -> Tally {
     };
     for (i, line) in s.split_inclusive(|b| text::is_newline(*b)).enumerate() {
         let text = line.get(..text::line_end(line));
-        tally.count(i.saturating_add(1), text.and_then(|text| check_line(text)));
+        tally.count(up(i), text.and_then(|text| check_line(text)));
     }
     tally
 }

@@ -6,8 +6,8 @@ use tokenizer_rows::{token_in, token_row};
 
 // One number: 1 where the text is UTF-8.
 pub fn utf8_agrees(s: &[u8], mut numbers: Numbers<'_>) -> bool {
-    let said = numbers.next().map(|n| n == 1);
-    numbers.rest.is_empty() && said == Some(utf8::is_utf8(s))
+    let said = numbers.next() == 1;
+    numbers.rest.is_empty() && said == utf8::is_utf8(s)
 }
 
 pub fn trimming_agrees(s: &[u8], numbers: Numbers<'_>, which: Dropped) -> bool {
@@ -17,9 +17,7 @@ pub fn trimming_agrees(s: &[u8], numbers: Numbers<'_>, which: Dropped) -> bool {
 
 // The text is the name of a token whose kind is the number. A name has zeros behind it.
 pub fn name_agrees(s: &[u8], mut numbers: Numbers<'_>) -> bool {
-    let Some(kind) = numbers.next() else {
-        return false;
-    };
+    let kind = numbers.next();
     let name = token_in(&[kind, 1, 0, 0, 0, 0]).name();
     let bytes = name.bytes;
     let Some((front, behind)) = bytes.split_at_checked(name.len) else {
@@ -54,9 +52,7 @@ pub fn value_agrees(s: &[u8], numbers: Numbers<'_>) -> bool {
 
 // The text is a multiline value on line 1 behind its indentation, whose length is the first number.
 pub fn multiline_agrees(s: &[u8], mut numbers: Numbers<'_>) -> bool {
-    let Some(len) = numbers.next() else {
-        return false;
-    };
+    let len = numbers.next();
     let indent = Part { start: 0, end: len };
     let text = Part {
         start: len,

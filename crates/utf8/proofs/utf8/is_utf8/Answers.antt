@@ -6,7 +6,7 @@ use mathlib.Core.Path.{◌∙◌}
 use Rattle.utf8.proofs.utf8.is_utf8.Goals as goal
 
 pub loop-b-init : goal.loop-b-init
-loop-b-init c = rw from (ascii _ _ c.ascii_len.ensures.value)
+loop-b-init c = rw from (ascii _ _ c.ascii_len.ensures.value).1
 
 pub loop-b-preserved : goal.loop-b-preserved
 loop-b-preserved c =
