@@ -26,7 +26,7 @@ pub fn text_in<'a>(hex: &[u8], room: &'a mut [u8; 256]) -> Option<&'a [u8]> {
 }
 
 // A line, and what is left of its numbers, each of which stands behind one byte. Where none is left, or one has over
-// nine digits, the next is read from the line's start on.
+// nine digits, the next is read from the line's start on (docs/DECISIONS.md, 'Beside the Rust').
 #[derive(Clone, Copy)]
 pub struct Numbers<'a> {
     pub line: &'a [u8],
@@ -56,6 +56,7 @@ impl<'a> Numbers<'a> {
         value
     }
 
+    // Whether these come next, one that can't be read as `next` has it.
     fn come<T: Into<usize> + Copy>(&mut self, wanted: &[T]) -> bool {
         wanted.iter().all(|n| self.next() == (*n).into())
     }
